@@ -1,0 +1,9 @@
+pub mod Computed
+pub mod Follow
+pub mod Relabel
+pub mod Merging
+pub mod Reach
+pub mod Judging
+pub mod Lawfully
+pub mod Firsts
+pub mod Ruled
