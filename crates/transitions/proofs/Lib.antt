@@ -7,3 +7,5 @@ pub mod Judging
 pub mod Lawfully
 pub mod Firsts
 pub mod Ruled
+pub mod Ported
+pub mod Masks
