@@ -9,3 +9,6 @@ pub mod Firsts
 pub mod Ruled
 pub mod Ported
 pub mod Masks
+pub mod Counted
+pub mod Cut
+pub mod Repeating

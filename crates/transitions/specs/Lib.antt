@@ -4,5 +4,6 @@ pub mod Made
 pub mod Rules
 pub mod Communications
 pub mod Counting
+pub mod Following
 pub mod Verdict
 pub mod Theorems
