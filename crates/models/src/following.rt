@@ -4,6 +4,13 @@ ghost use Rattle.std.specs.Options.{Cases};
 ghost use Rattle.transitions.specs.Following.{First-step, No-step, Repeated};
 use crate::systems::TransitionSystem;
 
+// A place of a state, and where its step leads.
+#[derive(Clone, Copy)]
+pub struct Placed {
+    pub place: usize,
+    pub target: usize,
+}
+
 // How often an action was done, and the state where that ended.
 #[derive(Clone, Copy)]
 pub struct Walk {
@@ -11,14 +18,14 @@ pub struct Walk {
     pub state: usize,
 }
 
-// Where the lowest place of a state that holds a step of the action leads.
-fn first_step<M: TransitionSystem>(model: &M, action: u8, state: usize) -> Option<usize>
-    ensures { λ r. ⌜ Cases r (No-step (M·TransitionSystem .meaning (now (model .entry))) action state) (λ t. First-step (M·TransitionSystem .meaning (now (model .entry))) action state t) ⌝ }
+// The lowest place of a state that holds a step of the action.
+pub fn first_step<M: TransitionSystem>(model: &M, action: u8, state: usize) -> Option<Placed>
+    ensures { λ r. ⌜ Cases r (No-step (M·TransitionSystem .meaning (now (model .entry))) action state) (λ x. First-step (M·TransitionSystem .meaning (now (model .entry))) action state (x .place) (x .target)) ⌝ }
 {
     for place in 0..model.width() {
         if let Some(step) = model.step(state, place) {
             if step.action == action {
-                return Some(step.target as usize);
+                return Some(Placed { place, target: step.target as usize });
             }
         }
     }
@@ -32,7 +39,7 @@ pub fn follow<M: TransitionSystem>(model: &M, action: u8, turns: u16) -> Walk
     let mut state = model.start();
     for made in 0..turns {
         match first_step(model, action, state) {
-            Some(next) => state = next,
+            Some(next) => state = next.target,
             None => return Walk { turns: made, state },
         }
     }

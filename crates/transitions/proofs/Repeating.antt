@@ -17,8 +17,8 @@ abbrev pub None-below : Lts → ℕ → ℕ → ℕ → Type 0
 None-below L a s n = (p u : ℕ) → p < n → L .step s p ≡ Some (record { action = a; target = u }) → ⊥
 
 module _ (L : Lts) (a s n : ℕ) (below : None-below L a s n) where
-  pub found : (x : Step) → L .step s n ≡ Some x → x .action ≡ a → First-step L a s (x .target)
-  found x e f = record { place = n; holds = e ∙ ap (λ (b : ℕ). Some (record { action = b; target = x .target })) f; lowest = below }
+  pub found : (x : Step) → L .step s n ≡ Some x → x .action ≡ a → First-step L a s n (x .target)
+  found x e f = record { holds = e ∙ ap (λ (b : ℕ). Some (record { action = b; target = x .target })) f; lowest = below }
 
   pub not-here : ((u : ℕ) → L .step s n ≡ Some (record { action = a; target = u }) → ⊥) → None-below L a s (n + 1)
   not-here here p u h e =
@@ -37,8 +37,8 @@ module _ (L : Lts) (a s n : ℕ) (below : None-below L a s n) where
   pub nowhere : Lawful L → L .width ≤ n → No-step L a s
   nowhere law h t (p, e) = let k = law .step-in s p _ e .1 in below p t (omega arith) e
 
-pub once-more : (L : Lts) (a s m t n : ℕ) → Repeats L a s n m → First-step L a m t → Repeats L a s (n + 1) t
-once-more L a s m t n w f = subst (λ k. Repeats L a s k t) (sym (add-one n)) (more w f)
+pub once-more : (L : Lts) (a s m p t n : ℕ) → Repeats L a s n m → First-step L a m p t → Repeats L a s (n + 1) t
+once-more L a s m p t n w f = subst (λ k. Repeats L a s k t) (sym (add-one n)) (more w f)
 
 pub not-yet : (L : Lts) (a s t : ℕ) → t ≡ s → Repeats L a s 0 t
 not-yet L a s t e = subst (λ k. Repeats L a s 0 k) (sym e) none

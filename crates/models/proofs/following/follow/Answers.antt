@@ -9,4 +9,4 @@ loop-made-holds g c =
 pub loop-made-again : need.loop-made-again
 loop-made-again g c =
     let L = g .M·TransitionSystem .meaning (c .args .model .now) in
-    once-more L (c .args .action) (L .start) _ _ _ (c .loop-made .inv) (c .in-Some .ensures tt)
+    once-more L (c .args .action) (L .start) _ _ _ _ (c .loop-made .inv) (c .in-Some .ensures tt)
