@@ -9,3 +9,4 @@ pub mod Firsts
 pub mod Ruled
 pub mod Ported
 pub mod Masks
+pub mod Listing
