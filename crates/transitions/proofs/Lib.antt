@@ -10,3 +10,4 @@ pub mod Ruled
 pub mod Ported
 pub mod Masks
 pub mod Listing
+pub mod Grouping

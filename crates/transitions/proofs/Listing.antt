@@ -29,7 +29,7 @@ swap line a b (inl h) = inr h
 swap line a b (inr h) = inl h
 
 pub said-swap : {lines : List JoinLine} {a b c : ℕ} → Said lines a b c → Said lines b a c
-said-swap s = record { place = s .place; within = s .within; names = swap _ _ _ (s .names); joint = s .joint }
+said-swap {lines} {a} {b} s = record { place = s .place; within = s .within; names = swap (line-at lines (s .place)) a b (s .names); joint = s .joint }
 
 -- the first line that names the pair gives its joint
 pub first-joint : (lines : List JoinLine) (a b k : ℕ) → k < length lines → names (line-at lines k) a b ≡ true → ((j : ℕ) → j < k → names (line-at lines j) a b ≡ false) → listed-joins lines a b ≡ Some (line-at lines k .joint)
@@ -58,12 +58,12 @@ joined-said (line ∷ lines) a b c e =
 
 -- and what is said is joined
 pub said-joined : (lines : List JoinLine) → Once lines → (a b c : ℕ) → Said lines a b c → listed-joins lines a b ≡ Some c
-said-joined lines once a b c s = first-joint lines a b (s .place) (s .within) (named _ a b .1 (s .names)) before ∙ ap Some (s .joint)
+said-joined lines once a b c s = first-joint lines a b (s .place) (s .within) (named (line-at lines (s .place)) a b .1 (s .names)) before ∙ ap Some (s .joint)
   where
     before : (j : ℕ) → j < s .place → names (line-at lines j) a b ≡ false
     before j l =
         elim (cases-bool (names (line-at lines j) a b))
-          [ inl h ↦ absurd (once j (s .place) a b l (s .within) (named _ a b .0 h) (s .names)) | inr h ↦ h ]
+          [ inl h ↦ absurd (once j (s .place) a b l (s .within) (named (line-at lines j) a b .0 h) (s .names)) | inr h ↦ h ]
 
 pub listed-commutes : (lines : List JoinLine) (a b : ℕ) → listed-joins lines a b ≡ listed-joins lines b a
 unfolding listed-joins
