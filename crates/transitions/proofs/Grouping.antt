@@ -88,6 +88,9 @@ listed-associates lines ok a b c = same-some _ _ (λ r. (there r, back r))
         let v = ok .associative a b c r .1 (w .0, joined-said lines b c (w .0) (w .1), joined-said lines a (w .0) r (w .2)) in
         some-after (λ d. listed-joins lines d c) (listed-joins lines a b) (v .0) r (said-joined lines (ok .once) a b (v .0) (v .1)) (said-joined lines (ok .once) (v .0) c r (v .2))
 
+pub listed-lawful : (lines : List JoinLine) → ((a b c : ℕ) → listed-joins lines a b ≡ Some c → Visible a × Visible b × Visible c) → ((a b c : ℕ) → after (λ d. listed-joins lines d c) (listed-joins lines a b) ≡ after (λ d. listed-joins lines a d) (listed-joins lines b c)) → Communication (listed-joins lines)
+listed-lawful lines v h = record { commutes = listed-commutes lines; silent-free = v; associates = h }
+
 -- ---- what is joined
 
 pub by-acceptable : (lines : List JoinLine) → Acceptable lines → By-lines lines (listed-joins lines)
