@@ -2,9 +2,11 @@
 use mathlib.Core.Path.{_≡_, refl, sym, ap, subst, _∙_}
 use mathlib.Core.Bool.{true}
 use mathlib.Core.List.{List, [], _∷_}
-use mathlib.Core.Logic.{_⊎_, inl, inr}
-use Prim.Native.Nat.{ℕ, _<_, _≤_}
+use mathlib.Core.Logic.{_⊎_, inl, inr, ∥∥₁-elim}
+use Prim.Native.Nat.{ℕ, suc, _<_, _≤_}
+use native.Mathlib.Nat.{ℕ-set}
 use native.Mathlib.Omega.{arith}
+use denote.Struct.Props.{props}
 use lib.ListN.{length}
 use Rattle.std.specs.declared.option.Option.{Option}
 use Rattle.std.specs.declared.option.Option.the-variants.{None, Some}
@@ -88,8 +90,36 @@ listed-associates lines ok a b c = same-some _ _ (λ r. (there r, back r))
         let v = ok .associative a b c r .1 (w .0, joined-said lines b c (w .0) (w .1), joined-said lines a (w .0) r (w .2)) in
         some-after (λ d. listed-joins lines d c) (listed-joins lines a b) (v .0) r (said-joined lines (ok .once) a b (v .0) (v .1)) (said-joined lines (ok .once) (v .0) c r (v .2))
 
-pub listed-lawful : (lines : List JoinLine) → ((a b c : ℕ) → listed-joins lines a b ≡ Some c → Visible a × Visible b × Visible c) → ((a b c : ℕ) → after (λ d. listed-joins lines d c) (listed-joins lines a b) ≡ after (λ d. listed-joins lines a d) (listed-joins lines b c)) → Communication (listed-joins lines)
-listed-lawful lines v h = record { commutes = listed-commutes lines; silent-free = v; associates = h }
+number : Option ℕ → ℕ
+number None = 0
+number (Some c) = suc c
+
+same-number : (o p : Option ℕ) → number o ≡ number p → o ≡ p
+unfolding number
+same-number None None e = refl
+same-number None (Some c) e = absurd (omega arith)
+same-number (Some c) None e = absurd (omega arith)
+same-number (Some c) (Some d) e = ap Some (omega arith)
+
+pub listed-lawful : (lines : List JoinLine) → ∥ Acceptable lines ∥₁ → Communication (listed-joins lines)
+listed-lawful lines some =
+    record {
+      commutes = listed-commutes lines;
+      silent-free = λ a b c e. ∥∥₁-elim some (search props) (λ ok. listed-visible lines ok a b c e);
+      associates = λ a b c. same-number _ _ (∥∥₁-elim some (ℕ-set _ _) (λ ok. ap number (listed-associates lines ok a b c)))
+    }
+
+pub none-acceptable : Acceptable []
+none-acceptable =
+    record {
+      few = omega arith;
+      visible = λ k h. absurd (omega arith);
+      once = λ j k a b l h. absurd (omega arith);
+      associative = λ a b c r. (λ w. absurd (none-said (w .1)), λ w. absurd (none-said (w .1)))
+    }
+  where
+    none-said : {a b c : ℕ} → Said [] a b c → ⊥
+    none-said s = omega (arith, s .within)
 
 -- ---- what is joined
 

@@ -1,4 +1,5 @@
 // The making of a communication given by lines, and its answers.
+ghost use denote.Ref.{now};
 ghost use mathlib.Core.Path.{_≡_};
 ghost use Rattle.actions.specs.Communications.{of-listed};
 ghost use Rattle.transitions.proofs.Grouping.{listed-lawful};
@@ -25,7 +26,7 @@ impl<'a> Listed<'a> {
 pub impl<'a> Communication for Listed<'a> as ListedCommunication {
     ghost joins = { of-listed };
 
-    ghost lawful = { λ c. listed-lawful (now (c .lines)) (c .silent_free) (c .associates) };
+    ghost lawful = { λ c. listed-lawful (now (c .lines)) (c .accepted) };
 
     fn join(&self, a: u8, b: u8) -> Option<u8> {
         joint_of(self.lines, a, b)
