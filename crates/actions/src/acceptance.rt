@@ -49,5 +49,14 @@ fn names_once(lines: &[JoinLine]) -> bool
 pub fn is_acceptable(lines: &[JoinLine]) -> bool
     ensures { λ r. ⌜ Decides r (Acceptable (now (lines .entry))) ⌝ }
 {
-    lines.len() <= 32 && all_visible(lines) && names_once(lines) && is_associative(lines)
+    if lines.len() > 32 {
+        return false;
+    }
+    if !all_visible(lines) {
+        return false;
+    }
+    if !names_once(lines) {
+        return false;
+    }
+    is_associative(lines)
 }

@@ -1,5 +1,5 @@
 -- The test of associativity looks only at what two lines can join, and tells all.
-use mathlib.Core.Path.{_≡_, refl, sym, ap, subst, _∙_}
+use mathlib.Core.Path.{_≡_, refl, sym, ap, _∙_, subst₃}
 use mathlib.Core.Bool.{true}
 use mathlib.Core.List.{List, [], _∷_}
 use mathlib.Core.Logic.{_⊎_, inl, inr, ∥∥₁-elim}
@@ -14,7 +14,7 @@ use Rattle.transitions.specs.declared.lines.JoinLine.{JoinLine}
 use Rattle.transitions.specs.Made.{Communication, Visible, after}
 use Rattle.transitions.specs.Rules.{Iff}
 use Rattle.transitions.specs.Listed.{line-at, Names, Said, Once, Associative, Visible-line, Acceptable, By-lines, listed-joins}
-use Rattle.transitions.proofs.Listing.{none-some, said-swap, joined-said, said-joined, listed-commutes, no-joint}
+use Rattle.transitions.proofs.Listing.{none-some, said-swap, joined-said, said-joined, listed-commutes}
 
 -- Joining b with c and then a with that gives r.
 abbrev pub Regroups : List JoinLine → ℕ → ℕ → ℕ → ℕ → Type 0
@@ -29,6 +29,15 @@ Line-regroups lines first = (k : ℕ) → k < length lines → Pair-regroups lin
 
 abbrev pub All-regroup : List JoinLine → Type 0
 All-regroup lines = (j : ℕ) → j < length lines → Line-regroups lines (line-at lines j)
+
+-- Where the second line names c beside the joint of the first, two looks tell.
+pub two-looks : (lines : List JoinLine) (first second : JoinLine) (c : ℕ) → ((x : ℕ) → Iff (Some c ≡ Some x) (Names second (first .joint) x))
+  → Iff (Pair-regroups lines first second) (Regroups lines (first .a) (first .b) c (second .joint) × Regroups lines (first .b) (first .a) c (second .joint))
+two-looks lines first second c only = (λ all. (all _ _ c (inl (refl, refl)) (only c .0 refl), all _ _ c (inr (refl, refl)) (only c .0 refl)), λ w. back w)
+  where
+    back : Regroups lines (first .a) (first .b) c (second .joint) × Regroups lines (first .b) (first .a) c (second .joint) → Pair-regroups lines first second
+    back (h, k) a b x (inl (e, f)) m = let q = only x .1 m in subst₃ (λ u v w. Regroups lines u v w (second .joint)) e f (cc) h
+    back (h, k) a b x (inr (e, f)) m = let q = only x .1 m in subst₃ (λ u v w. Regroups lines u v w (second .joint)) f e (cc) k
 
 after-some : (f : ℕ → Option ℕ) (o : Option ℕ) (r : ℕ) → after f o ≡ Some r → (d : ℕ) × (o ≡ Some d) × (f d ≡ Some r)
 after-some f None r e = absurd (none-some r e)

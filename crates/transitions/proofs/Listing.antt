@@ -6,7 +6,7 @@ use mathlib.Core.Logic.{_⊎_, inl, inr}
 use Prim.Native.Nat.{ℕ, zero, suc, _<_, _≤_}
 use native.Mathlib.Omega.{arith}
 use lib.Dec.{eqb}
-use lib.ListN.{length}
+use lib.ListN.{length, getD}
 use Rattle.std.proofs.shelf.Tests.{cases-bool, cond-true, cond-false}
 use Rattle.std.proofs.shelf.Ways.{tells, decides-and, decides-or, decides-eqb, not-from-decides}
 use Rattle.std.specs.Orderings.{Decides}
@@ -31,18 +31,18 @@ swap line a b (inr h) = inl h
 pub said-swap : {lines : List JoinLine} {a b c : ℕ} → Said lines a b c → Said lines b a c
 said-swap {lines} {a} {b} s = record { place = s .place; within = s .within; names = swap (line-at lines (s .place)) a b (s .names); joint = s .joint }
 
--- the first line that names the pair gives its joint
-pub first-joint : (lines : List JoinLine) (a b k : ℕ) → k < length lines → names (line-at lines k) a b ≡ true → ((j : ℕ) → j < k → names (line-at lines j) a b ≡ false) → listed-joins lines a b ≡ Some (line-at lines k .joint)
+-- the first line that names the pair gives its joint; d is what stands past the end
+pub first-joint : (d : JoinLine) (lines : List JoinLine) (a b k : ℕ) → k < length lines → names (getD lines k d) a b ≡ true → ((j : ℕ) → j < k → names (getD lines j d) a b ≡ false) → listed-joins lines a b ≡ Some (line-at lines k .joint)
 unfolding listed-joins
-first-joint [] a b k l h before = absurd (omega arith)
-first-joint (line ∷ lines) a b zero l h before = cond-true _ _ _ h
-first-joint (line ∷ lines) a b (suc k) l h before =
-    cond-false _ _ _ (before 0 (omega arith)) ∙ first-joint lines a b k (omega arith) h (λ j i. before (suc j) (omega arith))
+first-joint d [] a b k l h before = absurd (omega arith)
+first-joint d (line ∷ lines) a b zero l h before = cond-true _ _ _ h
+first-joint d (line ∷ lines) a b (suc k) l h before =
+    cond-false _ _ _ (before 0 (omega arith)) ∙ first-joint d lines a b k (omega arith) h (λ j i. before (suc j) (omega arith))
 
-pub no-joint : (lines : List JoinLine) (a b : ℕ) → ((j : ℕ) → j < length lines → names (line-at lines j) a b ≡ false) → listed-joins lines a b ≡ None
+pub no-joint : (d : JoinLine) (lines : List JoinLine) (a b : ℕ) → ((j : ℕ) → j < length lines → names (getD lines j d) a b ≡ false) → listed-joins lines a b ≡ None
 unfolding listed-joins
-no-joint [] a b h = refl
-no-joint (line ∷ lines) a b h = cond-false _ _ _ (h 0 (omega arith)) ∙ no-joint lines a b (λ j i. h (suc j) (omega arith))
+no-joint d [] a b h = refl
+no-joint d (line ∷ lines) a b h = cond-false _ _ _ (h 0 (omega arith)) ∙ no-joint d lines a b (λ j i. h (suc j) (omega arith))
 
 -- what is joined is said
 pub joined-said : (lines : List JoinLine) (a b c : ℕ) → listed-joins lines a b ≡ Some c → Said lines a b c
@@ -58,7 +58,7 @@ joined-said (line ∷ lines) a b c e =
 
 -- and what is said is joined
 pub said-joined : (lines : List JoinLine) → Once lines → (a b c : ℕ) → Said lines a b c → listed-joins lines a b ≡ Some c
-said-joined lines once a b c s = first-joint lines a b (s .place) (s .within) (named (line-at lines (s .place)) a b .1 (s .names)) before ∙ ap Some (s .joint)
+said-joined lines once a b c s = first-joint (record { a = 0; b = 0; joint = 0 }) lines a b (s .place) (s .within) (named (line-at lines (s .place)) a b .1 (s .names)) before ∙ ap Some (s .joint)
   where
     before : (j : ℕ) → j < s .place → names (line-at lines j) a b ≡ false
     before j l =
