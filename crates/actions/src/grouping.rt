@@ -25,7 +25,8 @@ fn pair_regroups(lines: &[JoinLine], first: JoinLine, second: JoinLine) -> bool
     ensures { λ r. ⌜ Decides r (Pair-regroups (now (lines .entry)) first second) ⌝ }
 {
     match partner(second, first.joint) {
-        Some(c) => regroups(lines, first.a, first.b, c, second.joint) && regroups(lines, first.b, first.a, c, second.joint),
+        Some(c) => regroups(lines, first.a, first.b, c, second.joint)
+            && regroups(lines, first.b, first.a, c, second.joint),
         None => true,
     }
 }

@@ -32,7 +32,7 @@ All-regroup lines = (j : ℕ) → j < length lines → Line-regroups lines (line
 
 -- Where the second line names c beside the joint of the first, two looks tell.
 pub two-looks : (lines : List JoinLine) (first second : JoinLine) (c : ℕ) → ((x : ℕ) → Iff (Some c ≡ Some x) (Names second (first .joint) x))
-  → Iff (Pair-regroups lines first second) (Regroups lines (first .a) (first .b) c (second .joint) × Regroups lines (first .b) (first .a) c (second .joint))
+    → Iff (Pair-regroups lines first second) (Regroups lines (first .a) (first .b) c (second .joint) × Regroups lines (first .b) (first .a) c (second .joint))
 two-looks lines first second c only = (λ all. (all _ _ c (inl (refl, refl)) (only c .0 refl), all _ _ c (inr (refl, refl)) (only c .0 refl)), λ w. back w)
   where
     back : Regroups lines (first .a) (first .b) c (second .joint) × Regroups lines (first .b) (first .a) c (second .joint) → Pair-regroups lines first second
@@ -67,7 +67,7 @@ all-regroup lines once assoc j lj k lk a b c n m =
     let t : Said lines (line-at lines j .joint) c (line-at lines k .joint) = record { place = k; within = lk; names = m; joint = refl } in
     let w = assoc a b c (line-at lines k .joint) .0 (line-at lines j .joint, s, t) in
     some-after (listed-joins lines a) (listed-joins lines b c) (w .0) (line-at lines k .joint)
-      (said-joined lines once b c (w .0) (w .1)) (said-joined lines once a (w .0) (line-at lines k .joint) (w .2))
+    (said-joined lines once b c (w .0) (w .1)) (said-joined lines once a (w .0) (line-at lines k .joint) (w .2))
 
 -- ---- acceptable lines are a lawful communication
 
@@ -115,7 +115,7 @@ listed-lawful lines some =
     record {
       commutes = listed-commutes lines;
       silent-free = λ a b c e. ∥∥₁-elim some (search props) (λ ok. listed-visible lines ok a b c e);
-      associates = λ a b c. same-number _ _ (∥∥₁-elim some (ℕ-set _ _) (λ ok. ap number (listed-associates lines ok a b c)))
+      associates = λ a b c. same-number _ _ (∥∥₁-elim some (ℕ-set _ _) (λ ok. ap number (listed-associates lines ok a b c)));
     }
 
 pub none-acceptable : Acceptable []
@@ -124,7 +124,7 @@ none-acceptable =
       few = omega arith;
       visible = λ k h. absurd (omega arith);
       once = λ j k a b l h. absurd (omega arith);
-      associative = λ a b c r. (λ w. absurd (none-said (w .1)), λ w. absurd (none-said (w .1)))
+      associative = λ a b c r. (λ w. absurd (none-said (w .1)), λ w. absurd (none-said (w .1)));
     }
   where
     none-said : {a b c : ℕ} → Said [] a b c → ⊥

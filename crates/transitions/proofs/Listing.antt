@@ -21,8 +21,8 @@ none-some x e = let z : _≡_ {A = ℕ} 0 1 = cc in omega arith
 pub named : (line : JoinLine) (a b : ℕ) → Decides (names line a b) (Names line a b)
 named line a b =
     decides-or _ _
-      (decides-and _ _ (decides-eqb (line .a) a) (decides-eqb (line .b) b))
-      (decides-and _ _ (decides-eqb (line .a) b) (decides-eqb (line .b) a))
+    (decides-and _ _ (decides-eqb (line .a) a) (decides-eqb (line .b) b))
+    (decides-and _ _ (decides-eqb (line .a) b) (decides-eqb (line .b) a))
 
 pub swap : (line : JoinLine) (a b : ℕ) → Names line a b → Names line b a
 swap line a b (inl h) = inr h
@@ -49,12 +49,12 @@ pub joined-said : (lines : List JoinLine) (a b c : ℕ) → listed-joins lines a
 unfolding listed-joins
 joined-said [] a b c e = absurd (none-some c e)
 joined-said (line ∷ lines) a b c e =
-    elim (cases-bool (names line a b))
-      [ inl h ↦ let k : Some (line .joint) ≡ Some c = rw h at e in record { place = 0; within = omega arith; names = named line a b .0 h; joint = cc }
+    elim (cases-bool (names line a b)) [
+      | inl h ↦ let k : Some (line .joint) ≡ Some c = rw h at e in record { place = 0; within = omega arith; names = named line a b .0 h; joint = cc }
       | inr h ↦
-        let s = joined-said lines a b c (rw h at e) in
-        record { place = suc (s .place); within = omega (arith, s .within); names = s .names; joint = s .joint }
-      ]
+          let s = joined-said lines a b c (rw h at e) in
+          record { place = suc (s .place); within = omega (arith, s .within); names = s .names; joint = s .joint }
+    ]
 
 -- and what is said is joined
 pub said-joined : (lines : List JoinLine) → Once lines → (a b c : ℕ) → Said lines a b c → listed-joins lines a b ≡ Some c
@@ -63,7 +63,7 @@ said-joined lines once a b c s = first-joint (record { a = 0; b = 0; joint = 0 }
     before : (j : ℕ) → j < s .place → names (line-at lines j) a b ≡ false
     before j l =
         elim (cases-bool (names (line-at lines j) a b))
-          [ inl h ↦ absurd (once j (s .place) a b l (s .within) (named (line-at lines j) a b .0 h) (s .names)) | inr h ↦ h ]
+        [ inl h ↦ absurd (once j (s .place) a b l (s .within) (named (line-at lines j) a b .0 h) (s .names)) | inr h ↦ h ]
 
 pub listed-commutes : (lines : List JoinLine) (a b : ℕ) → listed-joins lines a b ≡ listed-joins lines b a
 unfolding listed-joins

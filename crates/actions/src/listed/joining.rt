@@ -18,7 +18,9 @@ impl<'a> Listed<'a> {
         if is_acceptable(lines) {
             Listed { lines }
         } else {
-            Listed { lines: &lines[0..0] }
+            Listed {
+                lines: &lines[0..0],
+            }
         }
     }
 }

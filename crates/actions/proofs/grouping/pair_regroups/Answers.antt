@@ -6,9 +6,9 @@ use Rattle.actions.proofs.grouping.pair_regroups.Needs as need
 
 pub returns-then-regroups : need.returns-then-regroups
 returns-then-regroups c =
-    let looks = two-looks (c .args .lines .now) (c .args .first) (c .args .second) (c .in-Some .c) (c .in-Some .ensures tt) in
-    ( λ e. looks .1 (c .if-regroups .ensures tt .0 refl, c .regroups-then-regroups .ensures .0 e)
-    , λ all. c .regroups-then-regroups .ensures .1 (looks .0 all .1)
+    let looks = two-looks (c .args .lines .now) (c .args .first) (c .args .second) (c .in-Some .c) (c .in-Some .ensures tt) in (
+      λ e. looks .1 (c .if-regroups .ensures tt .0 refl, c .regroups-then-regroups .ensures .0 e),
+      λ all. c .regroups-then-regroups .ensures .1 (looks .0 all .1),
     )
 
 pub returns-else-regroups : need.returns-else-regroups
