@@ -1,1 +1,2 @@
+pub mod Communications
 pub mod Sets

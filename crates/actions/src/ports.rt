@@ -1,7 +1,8 @@
 // The port communication: send 3p + 1 and receive 3p + 2 join to 3p + 3, for the ports p from 0 to 19, and nothing else.
 ghost use mathlib.Core.Path.{_≡_};
+ghost use Rattle.actions.specs.Communications.{of-ports};
 ghost use Rattle.transitions.proofs.Ported.{ports-lawful};
-ghost use Rattle.transitions.specs.Communications.{By-ports, port-joins, sends};
+ghost use Rattle.transitions.specs.Communications.{By-ports, sends};
 use crate::communications::Communication;
 
 #[derive(Clone, Copy)]
@@ -9,7 +10,7 @@ pub struct Ports;
 
 impl Ports {
     pub fn new() -> Self
-        ensures { λ r. ⌜ By-ports port-joins ⌝ }
+        ensures { λ r. ⌜ By-ports (of-ports r) ⌝ }
     {
         Ports
     }
@@ -22,7 +23,7 @@ fn is_send(a: u8) -> bool
 }
 
 pub impl Communication for Ports as PortsCommunication {
-    ghost joins = { λ _. port-joins };
+    ghost joins = { of-ports };
 
     ghost lawful = { λ _. ports-lawful };
 

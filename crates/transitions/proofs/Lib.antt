@@ -12,3 +12,6 @@ pub mod Masks
 pub mod Counted
 pub mod Cut
 pub mod Repeating
+pub mod Listing
+pub mod Repeats
+pub mod Grouping

@@ -3,6 +3,7 @@ pub mod Match
 pub mod Made
 pub mod Rules
 pub mod Communications
+pub mod Listed
 pub mod Counting
 pub mod Following
 pub mod Verdict

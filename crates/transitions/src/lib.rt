@@ -1,4 +1,5 @@
 // Finite transition systems as mathematics, the values that speak of them, and the functions that name the theorems.
+pub mod lines;
 pub mod steps;
 pub mod theorems;
 pub mod verdicts;

@@ -1,0 +1,30 @@
+// The search of a list for an entry that is the same as another.
+ghost use mathlib.Core.Path.{_≡_};
+ghost use mathlib.Core.Bool.{Bool, true};
+ghost use Rattle.rows.specs.Found.{Found};
+
+// Entries of which one can say whether two are the same.
+pub trait Same {
+    ghost same: { Self → Self → Bool };
+
+    law reflexive: { (x : Self) → same x x ≡ true };
+
+    law symmetric: { (x y : Self) → same x y ≡ true → same y x ≡ true };
+
+    law transitive: { (x y z : Self) → same x y ≡ true → same y z ≡ true → same x z ≡ true };
+
+    fn is_same(&self, other: &Self) -> bool
+        ensures { λ r. ⌜ r ≡ same (now (self .entry)) (now (other .entry)) ⌝ };
+}
+
+// The lowest place whose entry is the same as x.
+pub fn find_same<T: Same>(entries: &[T], x: &T) -> Option<usize>
+    ensures { λ r. ⌜ Found same (now (entries .entry)) (now (x .entry)) r ⌝ }
+{
+    for (i, entry) in entries.iter().enumerate() {
+        if entry.is_same(x) {
+            return Some(i);
+        }
+    }
+    None
+}
