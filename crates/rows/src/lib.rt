@@ -1,6 +1,8 @@
-// The search of a list for an entry that is the same as another.
+// Lists of entries: the search for an entry that is the same as another, and clearing.
 ghost use mathlib.Core.Path.{_≡_};
 ghost use mathlib.Core.Bool.{Bool, true};
+ghost use Prim.Native.Nat.{ℕ};
+ghost use lib.ListN.{getD};
 ghost use Rattle.rows.specs.Found.{Found};
 
 // Entries of which one can say whether two are the same.
@@ -27,4 +29,13 @@ pub fn find_same<T: Same>(entries: &[T], x: &T) -> Option<usize>
         }
     }
     None
+}
+
+// Puts the same entry everywhere.
+pub fn clear<T: Copy>(table: &mut [T], zero: T)
+    ensures { λ _. ⌜ ((k : ℕ) → getD (now (table .exit)) k zero ≡ zero) ⌝ }
+{
+    for i in 0..table.len() {
+        table[i] = zero;
+    }
 }
