@@ -1,0 +1,68 @@
+// Whether silent lines run in a ring.
+ghost use mathlib.Core.Path.{_≡_};
+ghost use mathlib.Core.List.{List};
+ghost use Prim.Native.Nat.{ℕ};
+ghost use Rattle.modelfile.specs.Computed.{targets, walkers, some?, silent-ring};
+ghost use Rattle.modelfile.specs.State.{Marks};
+use processes::equations::Equation;
+
+// The variables that some line leads to.
+fn targets_of(equations: &[Equation]) -> [bool; 256]
+    ensures { λ r. ⌜ Marks r (targets (now (equations .entry))) ⌝ }
+{
+    let mut marks = [false; 256];
+    for l in equations {
+        match *l {
+            Equation::Becomes(_x, _a, y) => marks[y as usize] = true,
+            Equation::Ends(_x, _a) => {}
+        }
+    }
+    marks
+}
+
+#[derive(Clone, Copy)]
+struct Walkers {
+    marks: [bool; 256],
+    found: bool,
+}
+
+// The variables with a silent line to a marked one.
+fn walkers_of(equations: &[Equation], marks: [bool; 256]) -> Walkers
+    ensures { λ r. ⌜ ((A : List ℕ) → Marks marks A → Marks (r .marks) (walkers (now (equations .entry)) A) × (r .found ≡ some? (walkers (now (equations .entry)) A))) ⌝ }
+{
+    let mut next = [false; 256];
+    let mut found = false;
+    for l in equations {
+        match *l {
+            Equation::Becomes(x, a, y) => {
+                if a == 0 {
+                    if marks[y as usize] {
+                        next[x as usize] = true;
+                        found = true;
+                    }
+                }
+            }
+            Equation::Ends(_x, _a) => {}
+        }
+    }
+    Walkers { marks: next, found }
+}
+
+// There is a ring if some silent walk is longer than the lines are many.
+pub(crate) fn has_silent_ring(equations: &[Equation]) -> bool
+    ensures { λ r. ⌜ r ≡ silent-ring (now (equations .entry)) ⌝ }
+{
+    let mut marks = targets_of(equations);
+    let mut left = equations.len();
+    loop {
+        let w = walkers_of(equations, marks);
+        if !w.found {
+            return false;
+        }
+        if left == 0 {
+            return true;
+        }
+        marks = w.marks;
+        left -= 1;
+    }
+}
