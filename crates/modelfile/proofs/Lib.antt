@@ -1,2 +1,7 @@
 pub mod Walks
 pub mod Finding
+pub mod Groups
+pub mod Firsts
+pub mod Onces
+pub mod Stores
+pub mod Loops
