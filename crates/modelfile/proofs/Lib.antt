@@ -5,3 +5,7 @@ pub mod Firsts
 pub mod Onces
 pub mod Stores
 pub mod Loops
+pub mod Spelled
+pub mod Writings
+pub mod Places
+pub mod Goods
