@@ -19,7 +19,7 @@ any-at P [] i d l h = absurd (omega arith)
 any-at P (x ∷ xs) zero d l h = or-left (P x) (any P xs) h
 any-at P (x ∷ xs) (suc i) d l h = or-right (P x) (any P xs) (any-at P xs i d (omega arith) h)
 
-any-none : {A : Type 0} (P : A → Bool) (xs : List A) (d : A) → ((k : ℕ) → k < length xs → P (getD xs k d) ≡ false) → any P xs ≡ false
+pub any-none : {A : Type 0} (P : A → Bool) (xs : List A) (d : A) → ((k : ℕ) → k < length xs → P (getD xs k d) ≡ false) → any P xs ≡ false
 any-none P [] d h = refl
 any-none P (x ∷ xs) d h = or-from (P x) (any P xs) (h 0 (omega arith)) (any-none P xs d (λ k l. h (suc k) (omega arith)))
 

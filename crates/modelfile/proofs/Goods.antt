@@ -173,43 +173,82 @@ module _ (R : Room) where
   first-turn (suc k) h = no-way h
 
   good-equation : (S : Sofar) (e : Equation) → Good S → out-of-turn (S .turn) 2 ≡ false → Equation-fits (S .variables) e → any (λ d. same-equation d e) (S .equations) ≡ false → full 1024 (R .for-equations) (length (S .equations)) ≡ false
-    → Good (record { turn = 3; variables = S .variables; lines = S .lines; equations = S .equations ++ (e ∷ []); terms = S .terms })
+      → Good (record { turn = 3; variables = S .variables; lines = S .lines; equations = S .equations ++ (e ∷ []); terms = S .terms })
   good-equation S e g o w f m =
       let t = turn-is (S .turn) 2 (omega arith) o in
-      record { before-lines = λ l. absurd (omega arith); before-equations = λ l. absurd (omega arith); before-terms = λ _. g .before-terms (omega arith);
-        variables-few = g .variables-few; lines-few = g .lines-few; equations-few = full-false 1024 (R .for-equations) (S .equations) e m; terms-few = g .terms-few;
-        lines-visible = g .lines-visible; lines-once = g .lines-once;
+      record {
+        before-lines = λ l. absurd (omega arith);
+        before-equations = λ l. absurd (omega arith);
+        before-terms = λ _. g .before-terms (omega arith);
+        variables-few = g .variables-few;
+        lines-few = g .lines-few;
+        equations-few = full-false 1024 (R .for-equations) (S .equations) e m;
+        terms-few = g .terms-few;
+        lines-visible = g .lines-visible;
+        lines-once = g .lines-once;
         equations-fit = each-snoc (Equation-fits (S .variables)) (S .equations) e (g .equations-fit) w;
         equations-once = apart-snoc (S .equations) e (g .equations-once) (λ i h. no-way (sym (equation-same e) ∙ any-false (λ d. same-equation d e) (S .equations) f i e h));
-        terms-fit = g .terms-fit; terms-once = g .terms-once }
+        terms-fit = g .terms-fit;
+        terms-once = g .terms-once;
+      }
 
   pub good-after : (S : Sofar) (s : Said) → Good S → Passes R S s → start-of (entry-of s) ≡ None → Fields-fit s → Good (after S (entry-of s))
   good-after S (Variables v) g p n f =
       let z : S .turn ≡ 0 = first-turn (S .turn) (p .p4) in
-      record { before-lines = λ _. g .before-lines (omega arith); before-equations = λ _. g .before-equations (omega arith); before-terms = λ _. g .before-terms (omega arith);
-        variables-few = ltb-false 256 v (p .p5); lines-few = g .lines-few; equations-few = g .equations-few; terms-few = g .terms-few;
-        lines-visible = g .lines-visible; lines-once = g .lines-once;
-        equations-fit = none-in (Equation-fits v) (S .equations) (g .before-equations (omega arith)); equations-once = g .equations-once;
-        terms-fit = no-terms v (S .terms) (g .before-terms (omega arith)); terms-once = g .terms-once }
+      record {
+        before-lines = λ _. g .before-lines (omega arith);
+        before-equations = λ _. g .before-equations (omega arith);
+        before-terms = λ _. g .before-terms (omega arith);
+        variables-few = ltb-false 256 v (p .p5);
+        lines-few = g .lines-few;
+        equations-few = g .equations-few;
+        terms-few = g .terms-few;
+        lines-visible = g .lines-visible;
+        lines-once = g .lines-once;
+        equations-fit = none-in (Equation-fits v) (S .equations) (g .before-equations (omega arith));
+        equations-once = g .equations-once;
+        terms-fit = no-terms v (S .terms) (g .before-terms (omega arith));
+        terms-once = g .terms-once;
+      }
   good-after S (Joins a b r) g p n f =
       let t = turn-is (S .turn) 1 (omega arith) (p .p4) in
       let l : JoinLine = record { a = a; b = b; joint = r } in
-      record { before-lines = λ l. absurd (omega arith); before-equations = λ _. g .before-equations (omega arith); before-terms = λ _. g .before-terms (omega arith);
-        variables-few = g .variables-few; lines-few = full-false 32 (R .for-lines) (S .lines) l (p .p9); equations-few = g .equations-few; terms-few = g .terms-few;
+      record {
+        before-lines = λ l. absurd (omega arith);
+        before-equations = λ _. g .before-equations (omega arith);
+        before-terms = λ _. g .before-terms (omega arith);
+        variables-few = g .variables-few;
+        lines-few = full-false 32 (R .for-lines) (S .lines) l (p .p9);
+        equations-few = g .equations-few;
+        terms-few = g .terms-few;
         lines-visible = place-snoc Visible-line (S .lines) l _ (g .lines-visible) (line-visible (S .variables) a b r (p .p5) (p .p7));
         lines-once = once-snoc (S .lines) l (g .lines-once) (p .p8);
-        equations-fit = g .equations-fit; equations-once = g .equations-once; terms-fit = g .terms-fit; terms-once = g .terms-once }
+        equations-fit = g .equations-fit;
+        equations-once = g .equations-once;
+        terms-fit = g .terms-fit;
+        terms-once = g .terms-once;
+      }
   good-after S (Becomes x a y) g p n f = good-equation S (equation.Becomes x a y) g (p .p4) (becomes-fits (S .variables) x a y (p .p5)) (p .p8) (p .p9)
   good-after S (Ends x a) g p n f = good-equation S (equation.Ends x a) g (p .p4) (ends-fits (S .variables) x a (p .p5)) (p .p8) (p .p9)
   good-after S (Gives m k i j) g p n f =
       let w = or-false (not (eqb m (suc (length (S .terms))))) (operand-not-before m k i j) (p .p6) in
       let u : m ≡ suc (length (S .terms)) = eqb-true m (suc (length (S .terms))) (not-false (eqb m (suc (length (S .terms)))) (w .0)) in
       let t : Term = term-of k i j in
-      record { before-lines = λ l. absurd (omega arith); before-equations = λ l. absurd (omega arith); before-terms = λ l. absurd (omega arith);
-        variables-few = g .variables-few; lines-few = g .lines-few; equations-few = g .equations-few; terms-few = full-false 256 (R .for-terms) (S .terms) t (p .p9);
-        lines-visible = g .lines-visible; lines-once = g .lines-once; equations-fit = g .equations-fit; equations-once = g .equations-once;
+      record {
+        before-lines = λ l. absurd (omega arith);
+        before-equations = λ l. absurd (omega arith);
+        before-terms = λ l. absurd (omega arith);
+        variables-few = g .variables-few;
+        lines-few = g .lines-few;
+        equations-few = g .equations-few;
+        terms-few = full-false 256 (R .for-terms) (S .terms) t (p .p9);
+        lines-visible = g .lines-visible;
+        lines-once = g .lines-once;
+        equations-fit = g .equations-fit;
+        equations-once = g .equations-once;
         terms-fit = fits-snoc (S .variables) (S .terms) t (g .terms-fit) (subst (λ n. Term-fits (S .variables) n t) u (term-fits (S .variables) m k i j (p .p5) (w .1) (p .p7) f));
-        terms-once = apart-snoc (S .terms) t (g .terms-once) (λ i h. no-way (sym (term-same t) ∙ any-false (λ s. same-term s t) (S .terms) (p .p8) i t h)) }
+        terms-once = apart-snoc (S .terms) t (g .terms-once) (λ i h. no-way (sym (term-same t) ∙ any-false (λ s. same-term s t) (S .terms) (p .p8) i t h));
+      }
   good-after S (Starts m) g p n f = let z : _≡_ {A = ℕ} 0 1 = cc in absurd (omega arith)
 
   -- the lines said so far

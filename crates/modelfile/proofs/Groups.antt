@@ -89,15 +89,16 @@ module _ (ls : List JoinLine) (once : Once ls) where
     inside : (a b c : ℕ) → List·Memᴰ a (partners ls) → List·Memᴰ b (partners ls) → List·Memᴰ c (partners ls) → left-first ls a b c ≡ right-first ls a b c
     inside a b c ma mb mc =
         same-is _ _ (not-false _
-          (any-mem (λ c. not (same-answer (left-first ls a b c) (right-first ls a b c))) mc
-            (any-mem (λ b. any (λ c. not (same-answer (left-first ls a b c) (right-first ls a b c))) (partners ls)) mb
-              (any-mem (λ a. any (λ b. any (λ c. not (same-answer (left-first ls a b c) (right-first ls a b c))) (partners ls)) (partners ls)) ma h))))
+        (any-mem (λ c. not (same-answer (left-first ls a b c) (right-first ls a b c))) mc
+        (any-mem (λ b. any (λ c. not (same-answer (left-first ls a b c) (right-first ls a b c))) (partners ls)) mb
+        (any-mem (λ a. any (λ b. any (λ c. not (same-answer (left-first ls a b c) (right-first ls a b c))) (partners ls)) (partners ls)) ma h))))
 
     pub associative-from : Associative ls
     associative-from a b c r = (λ w. there w, λ w. back w)
       where
         there : ((d : ℕ) × Said ls a b d × Said ls d c r) → (d : ℕ) × Said ls b c d × Said ls a d r
         there (d, s, t) = right-of a b c r (sym (inside a b c (first-in s) (second-in s) (second-in t)) ∙ left-said a b c d r s t)
+
         back : ((d : ℕ) × Said ls b c d × Said ls a d r) → (d : ℕ) × Said ls a b d × Said ls d c r
         back (d, s, t) = left-of a b c r (inside a b c (first-in t) (first-in s) (second-in s) ∙ right-said a b c d r s t)
 

@@ -9,3 +9,7 @@ pub mod Spelled
 pub mod Writings
 pub mod Places
 pub mod Goods
+pub mod Circles
+pub mod Sounds
+pub mod Backs
+pub mod Refusing

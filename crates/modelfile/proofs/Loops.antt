@@ -21,7 +21,8 @@ use Rattle.transitions.specs.declared.lines.JoinLine.{JoinLine}
 use Rattle.processes.specs.declared.equations.Equation.{Equation}
 use Rattle.modelfile.specs.declared.entries.Sofar.{Sofar}
 use Rattle.modelfile.specs.declared.answers.Counts.{Counts}
-use Rattle.modelfile.specs.State.{sofar-is, room-is, Counted, Onward, Begins, Filled, tables-is}
+use Rattle.modelfile.specs.Promise.{room-is, tables-is}
+use Rattle.modelfile.specs.State.{sofar-is, Counted, Onward, Begins, Filled}
 
 goes-on : (i : ℕ) (S : file.Sofar) (n : ℕ) (bs : List ℕ) → 0 < length bs → ended i S n (raw-lines bs) ≡ refused-at WrongEnd (suc i)
 goes-on i S n [] l = absurd (omega arith)
@@ -66,32 +67,34 @@ module _ (ls0 : List JoinLine) (es0 : List Equation) (ts0 : List Term) (bytes : 
     at-more n ls′ es′ ts′ h b l = short-enough h ∙ sym here ∙ b .reads line (raw-lines more) ∙ goes-on line (sofar-is s ls es ts) n more l ∙ ap (refused-at WrongEnd) (sym (add-one line))
 
     pub at-end : (n : ℕ) (ls′ : List JoinLine) (es′ : List Equation) (ts′ : List Term) → length bytes ≤ 32768 → Begins (room-is ls es ts) text s n ls es ts ls′ es′ ts′ → length more ≤ 0
-      → drop (s .lines) ls ≡ drop (s .lines) ls0 → drop (s .equations) es ≡ drop (s .equations) es0 → drop (s .terms) ts ≡ drop (s .terms) ts0
-      → Filled bytes (record { variables = s .variables; lines = s .lines; equations = s .equations; terms = s .terms; start = n }) ls0 es0 ts0 ls′ es′ ts′
+        → drop (s .lines) ls ≡ drop (s .lines) ls0 → drop (s .equations) es ≡ drop (s .equations) es0 → drop (s .terms) ts ≡ drop (s .terms) ts0
+        → Filled bytes (record { variables = s .variables; lines = s .lines; equations = s .equations; terms = s .terms; start = n }) ls0 es0 ts0 ls′ es′ ts′
     at-end n ls′ es′ ts′ h b l dp dl dt = record {
       reads = short-enough h ∙ sym here ∙ b .reads line (raw-lines more) ∙ stops line (sofar-is s ls es ts) n more l
-        ∙ ap (λ x. read (tables-is N x es ts)) (sym (b .lines-stay)) ∙ ap (λ x. read (tables-is N ls′ x ts)) (sym (b .equations-stay)) ∙ ap (λ x. read (tables-is N ls′ es′ x)) (sym (b .terms-stay));
+          ∙ ap (λ x. read (tables-is N x es ts)) (sym (b .lines-stay)) ∙ ap (λ x. read (tables-is N ls′ x ts)) (sym (b .equations-stay)) ∙ ap (λ x. read (tables-is N ls′ es′ x)) (sym (b .terms-stay));
       past-lines = ap (drop (s .lines)) (b .lines-stay) ∙ dp;
       past-equations = ap (drop (s .equations)) (b .equations-stay) ∙ dl;
-      past-terms = ap (drop (s .terms)) (b .terms-stay) ∙ dt }
+      past-terms = ap (drop (s .terms)) (b .terms-stay) ∙ dt;
+    }
       where
         N : Counts
         N = record { variables = s .variables; lines = s .lines; equations = s .equations; terms = s .terms; start = n }
 
     pub again : (s′ : Sofar) (ls′ : List JoinLine) (es′ : List Equation) (ts′ : List Term) → Onward (room-is ls es ts) text s s′ ls es ts ls′ es′ ts′
-      → drop (s .lines) ls ≡ drop (s .lines) ls0 → drop (s .equations) es ≡ drop (s .equations) es0 → drop (s .terms) ts ≡ drop (s .terms) ts0
-      → line + length rest ≤ length bytes + 1 → length more < length rest
-      → (read-lines (room-is ls0 es0 ts0) (line + 1) (sofar-is s′ ls′ es′ ts′) (raw-lines more) ≡ read-lines (room-is ls0 es0 ts0) 1 nothing (raw-lines bytes))
+        → drop (s .lines) ls ≡ drop (s .lines) ls0 → drop (s .equations) es ≡ drop (s .equations) es0 → drop (s .terms) ts ≡ drop (s .terms) ts0
+        → line + length rest ≤ length bytes + 1 → length more < length rest
+        → (read-lines (room-is ls0 es0 ts0) (line + 1) (sofar-is s′ ls′ es′ ts′) (raw-lines more) ≡ read-lines (room-is ls0 es0 ts0) 1 nothing (raw-lines bytes))
         × Counted s′ ls′ es′ ts′
         × (line + 1 + length more ≤ length bytes + 1)
         × (drop (s′ .lines) ls′ ≡ drop (s′ .lines) ls0)
         × (drop (s′ .equations) es′ ≡ drop (s′ .equations) es0)
         × (drop (s′ .terms) ts′ ≡ drop (s′ .terms) ts0)
-    again s′ ls′ es′ ts′ o dp dl dt b m =
-      ( ap (λ i. read-lines (room-is ls0 es0 ts0) i (sofar-is s′ ls′ es′ ts′) (raw-lines more)) (add-one line)
-        ∙ ap (λ R. read-lines R (suc line) (sofar-is s′ ls′ es′ ts′) (raw-lines more)) (sym (room-same _ _ _ _ _ _ ep el et)) ∙ sym (o .reads line (raw-lines more)) ∙ here
-      , o .counted
-      , omega arith
-      , o .past-lines ∙ drop-past ls0 ls (s .lines) (s′ .lines) (o .more-lines) dp
-      , o .past-equations ∙ drop-past es0 es (s .equations) (s′ .equations) (o .more-equations) dl
-      , o .past-terms ∙ drop-past ts0 ts (s .terms) (s′ .terms) (o .more-terms) dt )
+    again s′ ls′ es′ ts′ o dp dl dt b m = (
+      ap (λ i. read-lines (room-is ls0 es0 ts0) i (sofar-is s′ ls′ es′ ts′) (raw-lines more)) (add-one line)
+          ∙ ap (λ R. read-lines R (suc line) (sofar-is s′ ls′ es′ ts′) (raw-lines more)) (sym (room-same _ _ _ _ _ _ ep el et)) ∙ sym (o .reads line (raw-lines more)) ∙ here,
+      o .counted,
+      omega arith,
+      o .past-lines ∙ drop-past ls0 ls (s .lines) (s′ .lines) (o .more-lines) dp,
+      o .past-equations ∙ drop-past es0 es (s .equations) (s′ .equations) (o .more-equations) dl,
+      o .past-terms ∙ drop-past ts0 ts (s .terms) (s′ .terms) (o .more-terms) dt,
+    )

@@ -51,6 +51,7 @@ once-snoc xs p once f = all-fresh (xs ++ (p ∷ [])) (λ k l j m. go k l j m (de
   where
     earlier : (k j : ℕ) → j < k → k < length xs → names (line-at xs j) (line-at xs k .a) (line-at xs k .b) ≡ false
     earlier k j m l = not-true _ (λ h. once j k (line-at xs k .a) (line-at xs k .b) m l (named (line-at xs j) (line-at xs k .a) (line-at xs k .b) .0 h) (inl (refl, refl)))
+
     go : (k : ℕ) → k < length (xs ++ (p ∷ [])) → (j : ℕ) → j < k → Dec (suc k ≤ length xs) → names (line-at (xs ++ (p ∷ [])) j) (line-at (xs ++ (p ∷ [])) k .a) (line-at (xs ++ (p ∷ [])) k .b) ≡ false
     go k l j m (yes a) = subst₂ (λ (x y : JoinLine). names x (y .a) (y .b) ≡ false) (sym (at-left xs (p ∷ []) j _ (omega arith))) (sym (at-left xs (p ∷ []) k _ a)) (earlier k j m a)
     go k l j m (no n) =

@@ -135,11 +135,13 @@ shape-is l h e = go (fields l) (tail-fields l) e
   where
     abbrev′ : List (List ℕ) → Option Shape
     abbrev′ fs = elim fs [ [] ↦ None | f ∷ fs ↦ elim (letter-in f) [ None ↦ None | Some c ↦ shape-by c fs ] ]
+
     at : (f : List ℕ) (fs : List (List ℕ)) → tail (f ∷ fs) ≡ 44 ∷ l → (o : Option Letter) → letter-in f ≡ o → (elim o as (λ _. Option Shape) [ None ↦ None | Some c ↦ shape-by c fs ]) ≡ Some h → l ≡ shape-text h
     at f fs w None g e = no-shape e
     at f fs w (Some c) g e =
         let a : f ++ tail fs ≡ l = cc in
         sym a ∙ ap (λ z. z ++ tail fs) (letter-is f c g) ∙ by-letter c fs h e
+
     go : (fs : List (List ℕ)) → tail fs ≡ 44 ∷ l → abbrev′ fs ≡ Some h → l ≡ shape-text h
     go [] w e = no-shape e
     go (f ∷ fs) w e = at f fs w (letter-in f) refl e
@@ -183,6 +185,7 @@ hex-is-digit b d e = go (is-digit b) refl e
         let v : b - 87 ≡ d = cc in
         let f : ltb d 10 ≡ false = le-ltb d 10 (omega arith) in
         (omega arith, let x : 87 + d ≡ b = omega arith in sym (ap (λ t. cond t (48 + d) (87 + d)) f ∙ x))
+
     go : (t : Bool) → is-digit b ≡ t → cond t (Some (b - 48)) (cond (leb 97 b && leb b 102) (Some (b - 87)) None) ≡ Some d → (d < 16) × (b ≡ hex-digit d)
     go false g e = up (leb 97 b && leb b 102) refl e
     go true g e =
@@ -199,6 +202,7 @@ hex-is (b ∷ f) v q e = go (λ w. hex-is f w q) (hex-value b) refl e
   where
     k : ℕ
     k = length f
+
     go : ((w : ℕ) → hex-on w f ≡ Some q → (q / 16 ^ length f ≡ w) × (f ≡ hex-digits (length f) q)) → (o : Option ℕ) → hex-value b ≡ o → (elim o as (λ _. Option ℕ) [ None ↦ None | Some d ↦ hex-on (16 * v + d) f ]) ≡ Some q → (q / 16 ^ suc (length f) ≡ v) × (b ∷ f ≡ hex-digits (suc (length f)) q)
     go ih None g e = let z : _≡_ {A = ℕ} 0 1 = cc in absurd (omega arith)
     go ih (Some d) g e =
@@ -206,9 +210,10 @@ hex-is (b ∷ f) v q e = go (λ w. hex-is f w q) (hex-value b) refl e
         let h = hex-is-digit b d g in
         let x : q / 16 ^ length f ≡ 16 * v + d = i .0 in
         let y : (16 * v + d) / 16 ≡ v = let lt : d < 16 = h .0 in omega arith in
-        let z : (16 * v + d) % 16 ≡ d = let lt : d < 16 = h .0 in omega arith in
-        ( ap (λ m. q / m) (pow-suc 16 (length f)) ∙ sym (div-div-eq-div-mul q (16 ^ length f) 16) ∙ ap (λ m. m / 16) x ∙ y
-        , ap₂ (λ s t. s ∷ t) (h .1 ∙ ap hex-digit (sym z ∙ ap (λ m. m % 16) (sym x))) (i .1) )
+        let z : (16 * v + d) % 16 ≡ d = let lt : d < 16 = h .0 in omega arith in (
+          ap (λ m. q / m) (pow-suc 16 (length f)) ∙ sym (div-div-eq-div-mul q (16 ^ length f) 16) ∙ ap (λ m. m / 16) x ∙ y,
+          ap₂ (λ s t. s ∷ t) (h .1 ∙ ap hex-digit (sym z ∙ ap (λ m. m % 16) (sym x))) (i .1),
+        )
 
 set-is : (f : List ℕ) (q : ℕ) → set f ≡ Some q → (f ≡ hex-digits 16 q) × (q < 2 ^ 64)
 set-is f q e = go (eqb (length f) 16) refl e
@@ -311,9 +316,11 @@ module _ (R : Room) where
       by-fault : (v : Said) → Line-is l v → (o : Option Fault) → fault-said R S v ≡ o → (elim o as (λ _. Judged) [ Some k ↦ faulty k | None ↦ fine v ]) ≡ fine s → Fine S (whole l) s
       by-fault v w (Some k) g e = let z : _≡_ {A = ℕ} 0 1 = cc in absurd (omega arith)
       by-fault v w None g e = let u : v ≡ s = cc in subst (λ z. Fine S (whole l) z) u (record { body = l; is = refl; text = w; passes = g })
+
       by-values : (h : Shape) → shape (whole l) ≡ Some h → (o : Option Said) → values h ≡ o → (elim o as (λ _. Judged) [ None ↦ faulty NoValue | Some v ↦ elim (fault-said R S v) [ Some k ↦ faulty k | None ↦ fine v ] ]) ≡ fine s → Fine S (whole l) s
       by-values h g None f e = let z : _≡_ {A = ℕ} 0 1 = cc in absurd (omega arith)
       by-values h g (Some v) f e = by-fault v (subst (λ z. Line-is z v) (sym (shape-is l h g)) (values-is h v f)) (fault-said R S v) refl e
+
       by-shape : (o : Option Shape) → shape (whole l) ≡ o → (elim o as (λ _. Judged) [ None ↦ faulty NoForm | Some h ↦ elim (values h) [ None ↦ faulty NoValue | Some v ↦ elim (fault-said R S v) [ Some k ↦ faulty k | None ↦ fine v ] ] ]) ≡ fine s → Fine S (whole l) s
       by-shape None g e = let z : _≡_ {A = ℕ} 0 1 = cc in absurd (omega arith)
       by-shape (Some h) g e = by-values h g (values h) refl e
@@ -358,11 +365,13 @@ module _ (R : Room) where
           append-nil [] = refl
           append-nil (x ∷ xs) = ap (λ r. x ∷ r) (append-nil xs)
       at-end s n f g (k ∷ ks) e = let z : _≡_ {A = ℕ} 0 1 = cc in absurd (omega arith)
+
       by-start : ((s : Said) → read-lines R (suc i) (after S (entry-of s)) ls ≡ read t → Chained (after S (entry-of s)) ls t) → (s : Said) → Fine S l s → (o : Option ℕ) → start-of (entry-of s) ≡ o → (elim o as (λ _. Answer) [ Some n ↦ ended i S n ls | None ↦ read-lines R (suc i) (after S (entry-of s)) ls ]) ≡ read t → Chained S (l ∷ ls) t
       by-start ih s f (Some n) g e = at-end s n f g ls e
       by-start ih s f None g e =
           let c = ih s e in
           record { said = s ∷ c .said; start = c .start; last = c .last; chain = next (f .passes) g (f .text .1) (c .chain); text = unlines-cons l ls (f .body) (written-line s) (f .is) (f .text .0) ∙ ap (λ z. written-line s ++ z) (c .text) ∙ sym (append-assoc (written-line s) (written (c .said)) (written-line (Starts (c .start)))); is = c .is }
+
       by-line : ((s : Said) → read-lines R (suc i) (after S (entry-of s)) ls ≡ read t → Chained (after S (entry-of s)) ls t) → (j : Judged) → judged R S l ≡ j → (elim j as (λ _. Answer) [ faulty k ↦ refused-at k i | fine s ↦ elim (start-of (entry-of s)) [ Some n ↦ ended i S n ls | None ↦ read-lines R (suc i) (after S (entry-of s)) ls ] ]) ≡ read t → Chained S (l ∷ ls) t
       by-line ih (faulty k) g e = let z : _≡_ {A = ℕ} 0 1 = cc in absurd (omega arith)
       by-line ih (fine s) g e = by-start ih s (fine-is S l s g) (start-of (entry-of s)) refl e

@@ -37,10 +37,12 @@ module _ (s : Sofar) (d : Entry) (ls : List JoinLine) (es : List Equation) (ts :
     past-terms = refl;
     more-lines = omega arith;
     more-equations = omega arith;
-    more-terms = omega arith }
+    more-terms = omega arith;
+  }
     where
       lt : s .lines < length ls
       lt = room (Joins l) q
+
       pushed : take (s .lines + 1) (set ls (s .lines) l) ≡ take (s .lines) ls ++ (l ∷ [])
       pushed = take-more-set ls (s .lines) l lt
 
@@ -53,7 +55,8 @@ module _ (s : Sofar) (d : Entry) (ls : List JoinLine) (es : List Equation) (ts :
     past-terms = refl;
     more-lines = omega arith;
     more-equations = omega arith;
-    more-terms = omega arith }
+    more-terms = omega arith;
+  }
     where
       lt : s .equations < length es
       lt = room (Does g) q
@@ -67,7 +70,8 @@ module _ (s : Sofar) (d : Entry) (ls : List JoinLine) (es : List Equation) (ts :
     past-terms = drop-set-lt (s .terms + 1) ts (s .terms) t (omega arith);
     more-lines = omega arith;
     more-equations = omega arith;
-    more-terms = omega arith }
+    more-terms = omega arith;
+  }
     where
       lt : (s .terms < length ts) × (s .terms < 256)
       lt = room (Gives t) q

@@ -234,45 +234,61 @@ pub record Back (s : Said) : Type 0 where
 
 pub back : (s : Said) → Numbers-fit s → Back s
 back (Variables v) h = record {
-    body = 109 ∷ 44 ∷ decimal v; text = refl; lacks = (refl, (refl, lack-num 10 (omega arith) v h)); form = variables (decimal v);
-    is-form = ap (shape-by letter.Variables) (fields-last (decimal v) (lack-num 44 (omega arith) v h));
-    is-said = then-eq _ (number-decimal v h) }
+  body = 109 ∷ 44 ∷ decimal v;
+  text = refl;
+  lacks = (refl, (refl, lack-num 10 (omega arith) v h));
+  form = variables (decimal v);
+  is-form = ap (shape-by letter.Variables) (fields-last (decimal v) (lack-num 44 (omega arith) v h));
+  is-said = then-eq _ (number-decimal v h);
+}
 back (Starts v) h = record {
-    body = 122 ∷ 44 ∷ decimal v; text = refl; lacks = (refl, (refl, lack-num 10 (omega arith) v h)); form = starts (decimal v);
-    is-form = ap (shape-by letter.Starts) (fields-last (decimal v) (lack-num 44 (omega arith) v h));
-    is-said = then-eq _ (number-decimal v h) }
+  body = 122 ∷ 44 ∷ decimal v;
+  text = refl;
+  lacks = (refl, (refl, lack-num 10 (omega arith) v h));
+  form = starts (decimal v);
+  is-form = ap (shape-by letter.Starts) (fields-last (decimal v) (lack-num 44 (omega arith) v h));
+  is-said = then-eq _ (number-decimal v h);
+}
 back (Joins a b r) h =
     let gs : List (List ℕ) = decimal b ∷ decimal r ∷ [] in
     record {
-    body = 99 ∷ 44 ∷ joinF (decimal a) gs; text = sym (ap (λ z. 99 ∷ 44 ∷ z) (join-on (decimal a) gs (10 ∷ [])));
-    lacks = (refl, (refl, join-lack (decimal a) gs (lack-num 10 (omega arith) a (h .0), (lack-num 10 (omega arith) b (h .1), (lack-num 10 (omega arith) r (h .2), tt)))));
-    form = joins (decimal a) (decimal b) (decimal r);
-    is-form = ap (shape-by letter.Joins) (fields-join (decimal a) gs (lack-num 44 (omega arith) a (h .0), (lack-num 44 (omega arith) b (h .1), (lack-num 44 (omega arith) r (h .2), tt))));
-    is-said = then-eq _ (number-decimal a (h .0)) ∙ then-eq _ (number-decimal b (h .1)) ∙ then-eq _ (number-decimal r (h .2)) }
+      body = 99 ∷ 44 ∷ joinF (decimal a) gs;
+      text = sym (ap (λ z. 99 ∷ 44 ∷ z) (join-on (decimal a) gs (10 ∷ [])));
+      lacks = (refl, (refl, join-lack (decimal a) gs (lack-num 10 (omega arith) a (h .0), (lack-num 10 (omega arith) b (h .1), (lack-num 10 (omega arith) r (h .2), tt)))));
+      form = joins (decimal a) (decimal b) (decimal r);
+      is-form = ap (shape-by letter.Joins) (fields-join (decimal a) gs (lack-num 44 (omega arith) a (h .0), (lack-num 44 (omega arith) b (h .1), (lack-num 44 (omega arith) r (h .2), tt))));
+      is-said = then-eq _ (number-decimal a (h .0)) ∙ then-eq _ (number-decimal b (h .1)) ∙ then-eq _ (number-decimal r (h .2));
+    }
 back (Becomes a b r) h =
     let gs : List (List ℕ) = decimal b ∷ decimal r ∷ [] in
     record {
-    body = 101 ∷ 44 ∷ joinF (decimal a) gs; text = sym (ap (λ z. 101 ∷ 44 ∷ z) (join-on (decimal a) gs (10 ∷ [])));
-    lacks = (refl, (refl, join-lack (decimal a) gs (lack-num 10 (omega arith) a (h .0), (lack-num 10 (omega arith) b (h .1), (lack-num 10 (omega arith) r (h .2), tt)))));
-    form = becomes (decimal a) (decimal b) (decimal r);
-    is-form = ap (shape-by letter.Becomes) (fields-join (decimal a) gs (lack-num 44 (omega arith) a (h .0), (lack-num 44 (omega arith) b (h .1), (lack-num 44 (omega arith) r (h .2), tt))));
-    is-said = then-eq _ (number-decimal a (h .0)) ∙ then-eq _ (number-decimal b (h .1)) ∙ then-eq _ (number-decimal r (h .2)) }
+      body = 101 ∷ 44 ∷ joinF (decimal a) gs;
+      text = sym (ap (λ z. 101 ∷ 44 ∷ z) (join-on (decimal a) gs (10 ∷ [])));
+      lacks = (refl, (refl, join-lack (decimal a) gs (lack-num 10 (omega arith) a (h .0), (lack-num 10 (omega arith) b (h .1), (lack-num 10 (omega arith) r (h .2), tt)))));
+      form = becomes (decimal a) (decimal b) (decimal r);
+      is-form = ap (shape-by letter.Becomes) (fields-join (decimal a) gs (lack-num 44 (omega arith) a (h .0), (lack-num 44 (omega arith) b (h .1), (lack-num 44 (omega arith) r (h .2), tt))));
+      is-said = then-eq _ (number-decimal a (h .0)) ∙ then-eq _ (number-decimal b (h .1)) ∙ then-eq _ (number-decimal r (h .2));
+    }
 back (Ends a b) h =
     let gs : List (List ℕ) = decimal b ∷ [] in
     record {
-    body = 102 ∷ 44 ∷ joinF (decimal a) gs; text = sym (ap (λ z. 102 ∷ 44 ∷ z) (join-on (decimal a) gs (10 ∷ [])));
-    lacks = (refl, (refl, join-lack (decimal a) gs (lack-num 10 (omega arith) a (h .0), (lack-num 10 (omega arith) b (h .1), tt))));
-    form = ends (decimal a) (decimal b);
-    is-form = ap (shape-by letter.Ends) (fields-join (decimal a) gs (lack-num 44 (omega arith) a (h .0), (lack-num 44 (omega arith) b (h .1), tt)));
-    is-said = then-eq _ (number-decimal a (h .0)) ∙ then-eq _ (number-decimal b (h .1)) }
+      body = 102 ∷ 44 ∷ joinF (decimal a) gs;
+      text = sym (ap (λ z. 102 ∷ 44 ∷ z) (join-on (decimal a) gs (10 ∷ [])));
+      lacks = (refl, (refl, join-lack (decimal a) gs (lack-num 10 (omega arith) a (h .0), (lack-num 10 (omega arith) b (h .1), tt))));
+      form = ends (decimal a) (decimal b);
+      is-form = ap (shape-by letter.Ends) (fields-join (decimal a) gs (lack-num 44 (omega arith) a (h .0), (lack-num 44 (omega arith) b (h .1), tt)));
+      is-said = then-eq _ (number-decimal a (h .0)) ∙ then-eq _ (number-decimal b (h .1));
+    }
 back (Gives n s p q) h =
     let gs : List (List ℕ) = (sign-byte s ∷ []) ∷ decimal p ∷ second-text s q ∷ [] in
     record {
-    body = 116 ∷ 44 ∷ joinF (decimal n) gs; text = sym (ap (λ z. 116 ∷ 44 ∷ z) (join-on (decimal n) gs (10 ∷ [])));
-    lacks = (refl, (refl, join-lack (decimal n) gs (lack-num 10 (omega arith) n (h .0), (sign-lack s .1, (lack-num 10 (omega arith) p (h .1), (lack-operand 10 (omega arith) s q (h .2), tt))))));
-    form = gives (decimal n) s (decimal p) (second-text s q);
-    is-form = ap (shape-by letter.Gives) (fields-join (decimal n) gs (lack-num 44 (omega arith) n (h .0), (sign-lack s .0, (lack-num 44 (omega arith) p (h .1), (lack-operand 44 (omega arith) s q (h .2), tt))))) ∙ ap (λ o. elim o as (λ _. Option Shape) [ None ↦ None | Some z ↦ Some (gives (decimal n) z (decimal p) (second-text s q)) ]) (sign-back s);
-    is-said = then-eq _ (number-decimal n (h .0)) ∙ then-eq _ (number-decimal p (h .1)) ∙ then-eq _ (operand-back s q (h .2)) }
+      body = 116 ∷ 44 ∷ joinF (decimal n) gs;
+      text = sym (ap (λ z. 116 ∷ 44 ∷ z) (join-on (decimal n) gs (10 ∷ [])));
+      lacks = (refl, (refl, join-lack (decimal n) gs (lack-num 10 (omega arith) n (h .0), (sign-lack s .1, (lack-num 10 (omega arith) p (h .1), (lack-operand 10 (omega arith) s q (h .2), tt))))));
+      form = gives (decimal n) s (decimal p) (second-text s q);
+      is-form = ap (shape-by letter.Gives) (fields-join (decimal n) gs (lack-num 44 (omega arith) n (h .0), (sign-lack s .0, (lack-num 44 (omega arith) p (h .1), (lack-operand 44 (omega arith) s q (h .2), tt))))) ∙ ap (λ o. elim o as (λ _. Option Shape) [ None ↦ None | Some z ↦ Some (gives (decimal n) z (decimal p) (second-text s q)) ]) (sign-back s);
+      is-said = then-eq _ (number-decimal n (h .0)) ∙ then-eq _ (number-decimal p (h .1)) ∙ then-eq _ (operand-back s q (h .2));
+    }
 
 -- ---- reading a chain of lines that are fine
 module _ (R : Room) where

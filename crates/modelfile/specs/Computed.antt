@@ -82,10 +82,10 @@ first-fault (test k b ∷ ts) = cond b (Some k) (first-fault ts)
 abbrev pub early-tests : ℕ → ℕ → ℕ → Said → List Test
 early-tests turn variables terms s =
     test OutOfTurn (out-of-turn turn (turn-of s))
-  ∷ test OverLimit (over-limit variables s)
-  ∷ test WrongNumber (wrong-number terms s)
-  ∷ test SilentUsed (silent-used s)
-  ∷ []
+    ∷ test OverLimit (over-limit variables s)
+    ∷ test WrongNumber (wrong-number terms s)
+    ∷ test SilentUsed (silent-used s)
+    ∷ []
 
 -- The start line, behind lines and equations.
 abbrev pub start-tests : List JoinLine → List Equation → List Test
@@ -95,10 +95,10 @@ start-tests ls es = test NotAssociative (not-associative ls) ∷ test SilentRing
 abbrev pub late-tests : Room → Sofar → Entry → List Test
 late-tests R S e =
     test SaidBefore (said-before S e)
-  ∷ test TooMany (too-many R (length (S .lines)) (length (S .equations)) (length (S .terms)) e)
-  ∷ test NotAssociative (at-start (not-associative (S .lines)) (start-of e))
-  ∷ test SilentRing (at-start (silent-ring (S .equations)) (start-of e))
-  ∷ []
+    ∷ test TooMany (too-many R (length (S .lines)) (length (S .equations)) (length (S .terms)) e)
+    ∷ test NotAssociative (at-start (not-associative (S .lines)) (start-of e))
+    ∷ test SilentRing (at-start (silent-ring (S .equations)) (start-of e))
+    ∷ []
 
 abbrev pub tests-of : Room → Sofar → Said → List Test
 tests-of R S s = early-tests (S .turn) (S .variables) (length (S .terms)) s ++ late-tests R S (entry-of s)
@@ -125,8 +125,9 @@ ended i S n (l ∷ ls) = refused-at WrongEnd (suc i)
 abbrev pub read-lines : Room → ℕ → Sofar → List Raw → Answer
 read-lines R i S [] = refused-at WrongEnd i
 read-lines R i S (l ∷ ls) = elim (judged R S l) [
-    faulty k ↦ refused-at k i
-  | fine s ↦ elim (start-of (entry-of s)) [ Some n ↦ ended i S n ls | None ↦ read-lines R (suc i) (after S (entry-of s)) ls ] ]
+  | faulty k ↦ refused-at k i
+  | fine s ↦ elim (start-of (entry-of s)) [ Some n ↦ ended i S n ls | None ↦ read-lines R (suc i) (after S (entry-of s)) ls ]
+]
 
 abbrev pub reading : Room → List ℕ → Answer
 reading R bytes = elim (ltb 32768 (length bytes)) [ true ↦ refused-at TooLong 0 | false ↦ read-lines R 1 nothing (raw-lines bytes) ]

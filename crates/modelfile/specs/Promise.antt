@@ -2,7 +2,7 @@
 use mathlib.Core.Path.{_≡_}
 use mathlib.Core.List.{List}
 use Prim.Native.Nat.{ℕ, _≤_}
-use lib.ListN.{length, drop, getD}
+use lib.ListN.{length, take, drop, getD}
 use Rattle.std.specs.declared.result.Result.{Result}
 use Rattle.std.specs.declared.result.Result.the-variants.{Ok, Err}
 use Rattle.processes.specs.declared.equations.Equation.{Equation}
@@ -14,8 +14,14 @@ use Rattle.modelfile.specs.declared.answers.Counts.{Counts}
 use Rattle.modelfile.specs.declared.answers.Refusal.{Refusal}
 use Rattle.modelfile.specs.Accepted.{Room, Accepted}
 use Rattle.modelfile.specs.Refusals.{Refused}
-use Rattle.modelfile.specs.State.{room-is, tables-is}
 use Rattle.modelfile.specs.Tables.{Tables, render}
+
+-- The rows handed over give the room, and hold the tables as far as the counts say.
+abbrev pub room-is : List JoinLine → List Equation → List Term → Room
+room-is ls es ts = record { for-lines = length ls; for-equations = length es; for-terms = length ts }
+
+abbrev pub tables-is : Counts → List JoinLine → List Equation → List Term → Tables
+tables-is n ls es ts = record { variables = n .variables; lines = take (n .lines) ls; equations = take (n .equations) es; terms = take (n .terms) ts; start = n .start }
 
 -- The bytes are the one text of the tables, and a model file may hold them.
 pub record Holds (R : Room) (bytes : List ℕ) (t : Tables) : Type 0 where

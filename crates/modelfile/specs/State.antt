@@ -1,4 +1,4 @@
--- The code's tables and counts, as what has been read.
+-- The code's tables and counts, as what has been read: what the functions inside the reader promise each other.
 use mathlib.Core.Path.{_≡_}
 use mathlib.Core.Bool.{Bool, true, false}
 use mathlib.Core.List.{List, _∷_}
@@ -26,19 +26,13 @@ use Rattle.modelfile.specs.Accepted.{Room}
 use Rattle.modelfile.specs.declared.faults.Fault.{Fault}
 use Rattle.modelfile.specs.Computed.{member, fault-said, judged, faulty, fine, read-lines, ended, refused-at, reading, read}
 use Rattle.modelfile.specs.Entries.{entry-of}
-use Rattle.modelfile.specs.Tables.{Tables}
+use Rattle.modelfile.specs.Promise.{room-is, tables-is}
 use Rattle.modelfile.specs.Tests.{after, said-before}
 use Rattle.modelfile.specs.Tests as file
-
-abbrev pub room-is : List JoinLine → List Equation → List Term → Room
-room-is ls es ts = record { for-lines = length ls; for-equations = length es; for-terms = length ts }
 
 -- What stands in the tables.
 abbrev pub sofar-is : Sofar → List JoinLine → List Equation → List Term → file.Sofar
 sofar-is s ls es ts = record { turn = s .turn; variables = s .variables; lines = take (s .lines) ls; equations = take (s .equations) es; terms = take (s .terms) ts }
-
-abbrev pub tables-is : Counts → List JoinLine → List Equation → List Term → Tables
-tables-is n ls es ts = record { variables = n .variables; lines = take (n .lines) ls; equations = take (n .equations) es; terms = take (n .terms) ts; start = n .start }
 
 pub record Counted (s : Sofar) (ls : List JoinLine) (es : List Equation) (ts : List Term) : Type 0 where
   pub variables-few : s .variables ≤ 256

@@ -62,7 +62,11 @@ pub(crate) fn entry_of(said: Said) -> Entry
 {
     match said {
         Said::Variables(v) => Entry::Variables(v),
-        Said::Joins(a, b, r) => Entry::Joins(JoinLine { a: a as u8, b: b as u8, joint: r as u8 }),
+        Said::Joins(a, b, r) => Entry::Joins(JoinLine {
+            a: a as u8,
+            b: b as u8,
+            joint: r as u8,
+        }),
         Said::Ends(x, a) => Entry::Does(Equation::Ends(x as u8, a as u8)),
         Said::Becomes(x, a, y) => Entry::Does(Equation::Becomes(x as u8, a as u8, y as u8)),
         Said::Gives(_n, k, p, q) => Entry::Gives(term_of(k, p, q)),

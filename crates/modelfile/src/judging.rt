@@ -4,7 +4,8 @@ ghost use Prim.Native.Nat.{ℕ, _≤_};
 ghost use Rattle.std.specs.declared.option.Option.the-variants.{Some, None};
 ghost use Rattle.transitions.specs.Listed.{Once};
 ghost use Rattle.modelfile.specs.Computed.{first-fault, early-tests, late-tests, start-tests};
-ghost use Rattle.modelfile.specs.State.{Counted, Narrow, Fits, Said-judged, Line-judged, sofar-is, room-is};
+ghost use Rattle.modelfile.specs.Promise.{room-is};
+ghost use Rattle.modelfile.specs.State.{Counted, Narrow, Fits, Said-judged, Line-judged, sofar-is};
 use super::entries::Entry;
 use super::entries::Sofar;
 use super::entries::entry_of;
@@ -62,7 +63,13 @@ fn start_fault(lines: &[JoinLine], equations: &[Equation]) -> Option<Fault>
 }
 
 // The first fault of the entry: 8 to 11.
-fn late_fault(st: Sofar, entry: Entry, lines: &[JoinLine], equations: &[Equation], terms: &[Term]) -> Option<Fault>
+fn late_fault(
+    st: Sofar,
+    entry: Entry,
+    lines: &[JoinLine],
+    equations: &[Equation],
+    terms: &[Term],
+) -> Option<Fault>
     requires { ⌜ Counted st (now lines) (now equations) (now terms) ⌝ }
     ensures is { λ r. ⌜ first-fault (late-tests (room-is (now (lines .entry)) (now (equations .entry)) (now (terms .entry))) (sofar-is st (now (lines .entry)) (now (equations .entry)) (now (terms .entry))) entry) ≡ r ⌝ }
     ensures fits { λ r. ⌜ elim r [ Some k ↦ Unit {0} | None ↦ Fits st entry (now (lines .entry)) (now (equations .entry)) (now (terms .entry)) ] ⌝ }
@@ -84,7 +91,13 @@ fn late_fault(st: Sofar, entry: Entry, lines: &[JoinLine], equations: &[Equation
 }
 
 // The entry that is said, or the first fault of what is said.
-fn judge_said(st: Sofar, said: Said, lines: &[JoinLine], equations: &[Equation], terms: &[Term]) -> Result<Entry, Fault>
+fn judge_said(
+    st: Sofar,
+    said: Said,
+    lines: &[JoinLine],
+    equations: &[Equation],
+    terms: &[Term],
+) -> Result<Entry, Fault>
     requires { ⌜ Counted st (now lines) (now equations) (now terms) ⌝ }
     ensures { λ r. ⌜ Said-judged st said (now (lines .entry)) (now (equations .entry)) (now (terms .entry)) r ⌝ }
 {
@@ -99,7 +112,13 @@ fn judge_said(st: Sofar, said: Said, lines: &[JoinLine], equations: &[Equation],
 }
 
 // The entry that a finished line adds, or the first fault of the line.
-pub(crate) fn judge_line(st: Sofar, text: &[u8], lines: &[JoinLine], equations: &[Equation], terms: &[Term]) -> Result<Entry, Fault>
+pub(crate) fn judge_line(
+    st: Sofar,
+    text: &[u8],
+    lines: &[JoinLine],
+    equations: &[Equation],
+    terms: &[Term],
+) -> Result<Entry, Fault>
     requires { ⌜ Counted st (now lines) (now equations) (now terms) ⌝ }
     ensures { λ r. ⌜ Line-judged st (now (text .entry)) (now (lines .entry)) (now (equations .entry)) (now (terms .entry)) r ⌝ }
 {

@@ -24,7 +24,11 @@ pub(crate) fn turn_of(said: Said) -> u8
 pub(crate) fn is_out_of_turn(turn: u8, t: u8) -> bool
     ensures { λ r. ⌜ r ≡ out-of-turn turn t ⌝ }
 {
-    if turn == 0 { t != 0 } else { t == 0 || t < turn - 1 }
+    if turn == 0 {
+        t != 0
+    } else {
+        t == 0 || t < turn - 1
+    }
 }
 
 fn is_term_over_limit(variables: u32, kind: Kind, p: u32, q: u64) -> bool

@@ -7,7 +7,7 @@ ghost use Rattle.std.specs.declared.option.Option.{Option};
 ghost use Rattle.processes.specs.Sameness.{same-equation, same-term};
 ghost use Rattle.transitions.specs.Listed.{names};
 ghost use Rattle.modelfile.specs.Accepted.{Room};
-ghost use Rattle.modelfile.specs.State.{Counted, Roomy, sofar-is, room-is};
+ghost use Rattle.modelfile.specs.State.{Counted, Roomy, sofar-is};
 ghost use Rattle.modelfile.specs.Tests.{any, said-before, full, too-many, start-of};
 use super::entries::Entry;
 use super::entries::Sofar;
@@ -41,7 +41,13 @@ fn is_term_before(terms: &[Term], count: usize, t: Term) -> bool
 }
 
 // Whether an earlier line said the same.
-pub(crate) fn is_said_before(st: Sofar, entry: Entry, lines: &[JoinLine], equations: &[Equation], terms: &[Term]) -> bool
+pub(crate) fn is_said_before(
+    st: Sofar,
+    entry: Entry,
+    lines: &[JoinLine],
+    equations: &[Equation],
+    terms: &[Term],
+) -> bool
     requires { ⌜ Counted st (now lines) (now equations) (now terms) ⌝ }
     ensures { λ r. ⌜ r ≡ said-before (sofar-is st (now (lines .entry)) (now (equations .entry)) (now (terms .entry))) entry ⌝ }
 {
@@ -61,7 +67,13 @@ fn is_full(limit: usize, room: usize, count: usize) -> bool
 }
 
 // Whether the entry is one too many, where so many may be stored.
-pub(crate) fn is_too_many(st: Sofar, entry: Entry, lines: usize, equations: usize, terms: usize) -> bool
+pub(crate) fn is_too_many(
+    st: Sofar,
+    entry: Entry,
+    lines: usize,
+    equations: usize,
+    terms: usize,
+) -> bool
     ensures { λ r. ⌜ r ≡ too-many (record { for-lines = lines; for-equations = equations; for-terms = terms }) (st .lines) (st .equations) (st .terms) entry ⌝ }
 {
     match entry {

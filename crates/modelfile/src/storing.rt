@@ -7,7 +7,13 @@ use processes::equations::Equation;
 use processes::terms::Term;
 use transitions::lines::JoinLine;
 
-pub(crate) fn store(st: Sofar, entry: Entry, lines: &mut [JoinLine], equations: &mut [Equation], terms: &mut [Term]) -> Sofar
+pub(crate) fn store(
+    st: Sofar,
+    entry: Entry,
+    lines: &mut [JoinLine],
+    equations: &mut [Equation],
+    terms: &mut [Term],
+) -> Sofar
     requires { ⌜ Counted st (now lines) (now equations) (now terms) ⌝ ∗ ⌜ Small entry ⌝ ∗ ⌜ Fits st entry (now lines) (now equations) (now terms) ⌝ }
     ensures { λ r. ⌜ Stored st entry (now (lines .entry)) (now (equations .entry)) (now (terms .entry)) r (now (lines .exit)) (now (equations .exit)) (now (terms .exit)) ⌝ }
 {

@@ -2,7 +2,8 @@ use mathlib.Core.Path.{_≡_, ap, _∙_}
 use Rattle.std.proofs.shelf.Lists.{length-take-le}
 use Rattle.modelfile.specs.Computed.{first-fault, early-tests, late-tests}
 use Rattle.modelfile.specs.Entries.{entry-of}
-use Rattle.modelfile.specs.State.{sofar-is, room-is}
+use Rattle.modelfile.specs.Promise.{room-is}
+use Rattle.modelfile.specs.State.{sofar-is}
 use Rattle.modelfile.proofs.Firsts.{first-left}
 use Rattle.modelfile.proofs.judging.judge_said.Needs as need
 

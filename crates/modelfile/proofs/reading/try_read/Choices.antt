@@ -4,7 +4,8 @@ use lib.ListN.{length, drop}
 use Rattle.tokens.specs.Lines.{raw-lines}
 use Rattle.modelfile.specs.Computed.{read-lines}
 use Rattle.modelfile.specs.Tests.{nothing}
-use Rattle.modelfile.specs.State.{sofar-is, room-is, Counted}
+use Rattle.modelfile.specs.Promise.{room-is}
+use Rattle.modelfile.specs.State.{sofar-is, Counted}
 use Rattle.modelfile.proofs.reading.try_read.Given as given
 
 abbrev pub Inv-loop-text : given.InvT-loop-text

@@ -12,8 +12,9 @@ use Rattle.modelfile.proofs.rings.targets_of.Needs.{in-Becomes, in-Ends}
 
 pub loop-l-again : need.loop-l-again
 loop-l-again c = elim (c .match-l .came) [
-    in-Becomes w ↦ left-set (c .loop-l .marks) (c .match-l .marks) (w .in-Becomes .y) (targets (drop (c .loop-l .l-index) (c .args .equations .now))) (targets (drop (c .loop-l .l-index + 1) (c .args .equations .now))) (targets (c .args .equations .now)) (c .loop-l .inv .0) (omega arith) (w .marks-is) (targets-on (c .args .equations .now) (c .loop-l .l-index) (Ends 0 0) (c .loop-l-test .taken) (w .in-Becomes .-x) (w .in-Becomes .-a) (w .in-Becomes .y) (w .in-Becomes .is)) (c .loop-l .inv .1)
-  | in-Ends w ↦ left-kept (c .loop-l .marks) (c .match-l .marks) (targets (drop (c .loop-l .l-index) (c .args .equations .now))) (targets (drop (c .loop-l .l-index + 1) (c .args .equations .now))) (targets (c .args .equations .now)) (c .loop-l .inv .0) (w .marks-is) (targets-past (c .args .equations .now) (c .loop-l .l-index) (Ends 0 0) (c .loop-l-test .taken) (w .in-Ends .-x) (w .in-Ends .-a) (w .in-Ends .is)) (c .loop-l .inv .1) ]
+  | in-Becomes w ↦ left-set (c .loop-l .marks) (c .match-l .marks) (w .in-Becomes .y) (targets (drop (c .loop-l .l-index) (c .args .equations .now))) (targets (drop (c .loop-l .l-index + 1) (c .args .equations .now))) (targets (c .args .equations .now)) (c .loop-l .inv .0) (omega arith) (w .marks-is) (targets-on (c .args .equations .now) (c .loop-l .l-index) (Ends 0 0) (c .loop-l-test .taken) (w .in-Becomes .-x) (w .in-Becomes .-a) (w .in-Becomes .y) (w .in-Becomes .is)) (c .loop-l .inv .1)
+  | in-Ends w ↦ left-kept (c .loop-l .marks) (c .match-l .marks) (targets (drop (c .loop-l .l-index) (c .args .equations .now))) (targets (drop (c .loop-l .l-index + 1) (c .args .equations .now))) (targets (c .args .equations .now)) (c .loop-l .inv .0) (w .marks-is) (targets-past (c .args .equations .now) (c .loop-l .l-index) (Ends 0 0) (c .loop-l-test .taken) (w .in-Ends .-x) (w .in-Ends .-a) (w .in-Ends .is)) (c .loop-l .inv .1)
+]
 
 pub loop-l-holds : need.loop-l-holds
 loop-l-holds c = (refl, left-start 256 (targets (c .args .equations .now)))

@@ -12,32 +12,42 @@ use Rattle.modelfile.proofs.rings.walkers_of.Needs.{in-Becomes·then-a-eq0·th
 
 pub loop-l-again : need.loop-l-again
 loop-l-again c = elim (c .match-l .came) [
-    in-Becomes·then-a-eq0·then-marks-y w ↦
-      ( ap length (w .next-is) ∙ length-set (c .loop-l .next) (w .in-Becomes .x) true ∙ c .loop-l .inv .0
-      , λ A m.
-        ( left-set (c .loop-l .next) (c .match-l .next) (w .in-Becomes .x) (walkers (drop (c .loop-l .l-index) (c .args .equations .now)) A) (walkers (drop (c .loop-l .l-index + 1) (c .args .equations .now)) A) (walkers (c .args .equations .now) A) (c .loop-l .inv .0) (omega arith) (w .next-is) (walkers-hit (c .args .equations .now) (c .loop-l .l-index) (Ends 0 0) (c .loop-l-test .taken) A (w .in-Becomes .x) (w .in-Becomes .a) (w .in-Becomes .y) (w .in-Becomes .is) (w .if-a-eq0 .taken) (sym (m (w .in-Becomes .y) (omega arith)) ∙ w .if-marks-y .taken)) (c .loop-l .inv .1 A m .0) .1
-        , ap (λ f. f || some? (walkers (drop (c .loop-l .l-index + 1) (c .args .equations .now)) A)) (w .found-is) ∙ found-on (c .loop-l .found) (w .in-Becomes .x) (walkers (drop (c .loop-l .l-index) (c .args .equations .now)) A) (walkers (drop (c .loop-l .l-index + 1) (c .args .equations .now)) A) (walkers (c .args .equations .now) A) (walkers-hit (c .args .equations .now) (c .loop-l .l-index) (Ends 0 0) (c .loop-l-test .taken) A (w .in-Becomes .x) (w .in-Becomes .a) (w .in-Becomes .y) (w .in-Becomes .is) (w .if-a-eq0 .taken) (sym (m (w .in-Becomes .y) (omega arith)) ∙ w .if-marks-y .taken)) (c .loop-l .inv .1 A m .1)))
-  | in-Becomes·then-a-eq0·else-marks-y w ↦
-      ( ap length (w .next-is) ∙ c .loop-l .inv .0
-      , λ A m. 
-        ( left-kept (c .loop-l .next) (c .match-l .next) (walkers (drop (c .loop-l .l-index) (c .args .equations .now)) A) (walkers (drop (c .loop-l .l-index + 1) (c .args .equations .now)) A) (walkers (c .args .equations .now) A) (c .loop-l .inv .0) (w .next-is) (walkers-out (c .args .equations .now) (c .loop-l .l-index) (Ends 0 0) (c .loop-l-test .taken) A (w .in-Becomes .x) (w .in-Becomes .a) (w .in-Becomes .y) (w .in-Becomes .is) (sym (m (w .in-Becomes .y) (omega arith)) ∙ w .if-marks-y .left)) (c .loop-l .inv .1 A m .0) .1
-        , ap (λ f. f || some? (walkers (drop (c .loop-l .l-index + 1) (c .args .equations .now)) A)) (w .found-is) ∙ found-past (c .loop-l .found) (walkers (drop (c .loop-l .l-index) (c .args .equations .now)) A) (walkers (drop (c .loop-l .l-index + 1) (c .args .equations .now)) A) (walkers (c .args .equations .now) A) (walkers-out (c .args .equations .now) (c .loop-l .l-index) (Ends 0 0) (c .loop-l-test .taken) A (w .in-Becomes .x) (w .in-Becomes .a) (w .in-Becomes .y) (w .in-Becomes .is) (sym (m (w .in-Becomes .y) (omega arith)) ∙ w .if-marks-y .left)) (c .loop-l .inv .1 A m .1)))
-  | in-Becomes·else-a-eq0 w ↦
-      ( ap length (w .next-is) ∙ c .loop-l .inv .0
-      , λ A m. 
-        ( left-kept (c .loop-l .next) (c .match-l .next) (walkers (drop (c .loop-l .l-index) (c .args .equations .now)) A) (walkers (drop (c .loop-l .l-index + 1) (c .args .equations .now)) A) (walkers (c .args .equations .now) A) (c .loop-l .inv .0) (w .next-is) (walkers-loud (c .args .equations .now) (c .loop-l .l-index) (Ends 0 0) (c .loop-l-test .taken) A (w .in-Becomes .x) (w .in-Becomes .a) (w .in-Becomes .y) (w .in-Becomes .is) (w .if-a-eq0 .left)) (c .loop-l .inv .1 A m .0) .1
-        , ap (λ f. f || some? (walkers (drop (c .loop-l .l-index + 1) (c .args .equations .now)) A)) (w .found-is) ∙ found-past (c .loop-l .found) (walkers (drop (c .loop-l .l-index) (c .args .equations .now)) A) (walkers (drop (c .loop-l .l-index + 1) (c .args .equations .now)) A) (walkers (c .args .equations .now) A) (walkers-loud (c .args .equations .now) (c .loop-l .l-index) (Ends 0 0) (c .loop-l-test .taken) A (w .in-Becomes .x) (w .in-Becomes .a) (w .in-Becomes .y) (w .in-Becomes .is) (w .if-a-eq0 .left)) (c .loop-l .inv .1 A m .1)))
-  | in-Ends w ↦
-      ( ap length (w .next-is) ∙ c .loop-l .inv .0
-      , λ A m. 
-        ( left-kept (c .loop-l .next) (c .match-l .next) (walkers (drop (c .loop-l .l-index) (c .args .equations .now)) A) (walkers (drop (c .loop-l .l-index + 1) (c .args .equations .now)) A) (walkers (c .args .equations .now) A) (c .loop-l .inv .0) (w .next-is) (walkers-past (c .args .equations .now) (c .loop-l .l-index) (Ends 0 0) (c .loop-l-test .taken) A (w .in-Ends .-x) (w .in-Ends .-a) (w .in-Ends .is)) (c .loop-l .inv .1 A m .0) .1
-        , ap (λ f. f || some? (walkers (drop (c .loop-l .l-index + 1) (c .args .equations .now)) A)) (w .found-is) ∙ found-past (c .loop-l .found) (walkers (drop (c .loop-l .l-index) (c .args .equations .now)) A) (walkers (drop (c .loop-l .l-index + 1) (c .args .equations .now)) A) (walkers (c .args .equations .now) A) (walkers-past (c .args .equations .now) (c .loop-l .l-index) (Ends 0 0) (c .loop-l-test .taken) A (w .in-Ends .-x) (w .in-Ends .-a) (w .in-Ends .is)) (c .loop-l .inv .1 A m .1))) ]
+  | in-Becomes·then-a-eq0·then-marks-y w ↦ (
+    ap length (w .next-is) ∙ length-set (c .loop-l .next) (w .in-Becomes .x) true ∙ c .loop-l .inv .0,
+    λ A m. (
+      left-set (c .loop-l .next) (c .match-l .next) (w .in-Becomes .x) (walkers (drop (c .loop-l .l-index) (c .args .equations .now)) A) (walkers (drop (c .loop-l .l-index + 1) (c .args .equations .now)) A) (walkers (c .args .equations .now) A) (c .loop-l .inv .0) (omega arith) (w .next-is) (walkers-hit (c .args .equations .now) (c .loop-l .l-index) (Ends 0 0) (c .loop-l-test .taken) A (w .in-Becomes .x) (w .in-Becomes .a) (w .in-Becomes .y) (w .in-Becomes .is) (w .if-a-eq0 .taken) (sym (m (w .in-Becomes .y) (omega arith)) ∙ w .if-marks-y .taken)) (c .loop-l .inv .1 A m .0) .1,
+      ap (λ f. f || some? (walkers (drop (c .loop-l .l-index + 1) (c .args .equations .now)) A)) (w .found-is) ∙ found-on (c .loop-l .found) (w .in-Becomes .x) (walkers (drop (c .loop-l .l-index) (c .args .equations .now)) A) (walkers (drop (c .loop-l .l-index + 1) (c .args .equations .now)) A) (walkers (c .args .equations .now) A) (walkers-hit (c .args .equations .now) (c .loop-l .l-index) (Ends 0 0) (c .loop-l-test .taken) A (w .in-Becomes .x) (w .in-Becomes .a) (w .in-Becomes .y) (w .in-Becomes .is) (w .if-a-eq0 .taken) (sym (m (w .in-Becomes .y) (omega arith)) ∙ w .if-marks-y .taken)) (c .loop-l .inv .1 A m .1),
+    ),
+  )
+  | in-Becomes·then-a-eq0·else-marks-y w ↦ (
+    ap length (w .next-is) ∙ c .loop-l .inv .0,
+    λ A m. (
+      left-kept (c .loop-l .next) (c .match-l .next) (walkers (drop (c .loop-l .l-index) (c .args .equations .now)) A) (walkers (drop (c .loop-l .l-index + 1) (c .args .equations .now)) A) (walkers (c .args .equations .now) A) (c .loop-l .inv .0) (w .next-is) (walkers-out (c .args .equations .now) (c .loop-l .l-index) (Ends 0 0) (c .loop-l-test .taken) A (w .in-Becomes .x) (w .in-Becomes .a) (w .in-Becomes .y) (w .in-Becomes .is) (sym (m (w .in-Becomes .y) (omega arith)) ∙ w .if-marks-y .left)) (c .loop-l .inv .1 A m .0) .1,
+      ap (λ f. f || some? (walkers (drop (c .loop-l .l-index + 1) (c .args .equations .now)) A)) (w .found-is) ∙ found-past (c .loop-l .found) (walkers (drop (c .loop-l .l-index) (c .args .equations .now)) A) (walkers (drop (c .loop-l .l-index + 1) (c .args .equations .now)) A) (walkers (c .args .equations .now) A) (walkers-out (c .args .equations .now) (c .loop-l .l-index) (Ends 0 0) (c .loop-l-test .taken) A (w .in-Becomes .x) (w .in-Becomes .a) (w .in-Becomes .y) (w .in-Becomes .is) (sym (m (w .in-Becomes .y) (omega arith)) ∙ w .if-marks-y .left)) (c .loop-l .inv .1 A m .1),
+    ),
+  )
+  | in-Becomes·else-a-eq0 w ↦ (
+    ap length (w .next-is) ∙ c .loop-l .inv .0,
+    λ A m. (
+      left-kept (c .loop-l .next) (c .match-l .next) (walkers (drop (c .loop-l .l-index) (c .args .equations .now)) A) (walkers (drop (c .loop-l .l-index + 1) (c .args .equations .now)) A) (walkers (c .args .equations .now) A) (c .loop-l .inv .0) (w .next-is) (walkers-loud (c .args .equations .now) (c .loop-l .l-index) (Ends 0 0) (c .loop-l-test .taken) A (w .in-Becomes .x) (w .in-Becomes .a) (w .in-Becomes .y) (w .in-Becomes .is) (w .if-a-eq0 .left)) (c .loop-l .inv .1 A m .0) .1,
+      ap (λ f. f || some? (walkers (drop (c .loop-l .l-index + 1) (c .args .equations .now)) A)) (w .found-is) ∙ found-past (c .loop-l .found) (walkers (drop (c .loop-l .l-index) (c .args .equations .now)) A) (walkers (drop (c .loop-l .l-index + 1) (c .args .equations .now)) A) (walkers (c .args .equations .now) A) (walkers-loud (c .args .equations .now) (c .loop-l .l-index) (Ends 0 0) (c .loop-l-test .taken) A (w .in-Becomes .x) (w .in-Becomes .a) (w .in-Becomes .y) (w .in-Becomes .is) (w .if-a-eq0 .left)) (c .loop-l .inv .1 A m .1),
+    ),
+  )
+  | in-Ends w ↦ (
+    ap length (w .next-is) ∙ c .loop-l .inv .0,
+    λ A m. (
+      left-kept (c .loop-l .next) (c .match-l .next) (walkers (drop (c .loop-l .l-index) (c .args .equations .now)) A) (walkers (drop (c .loop-l .l-index + 1) (c .args .equations .now)) A) (walkers (c .args .equations .now) A) (c .loop-l .inv .0) (w .next-is) (walkers-past (c .args .equations .now) (c .loop-l .l-index) (Ends 0 0) (c .loop-l-test .taken) A (w .in-Ends .-x) (w .in-Ends .-a) (w .in-Ends .is)) (c .loop-l .inv .1 A m .0) .1,
+      ap (λ f. f || some? (walkers (drop (c .loop-l .l-index + 1) (c .args .equations .now)) A)) (w .found-is) ∙ found-past (c .loop-l .found) (walkers (drop (c .loop-l .l-index) (c .args .equations .now)) A) (walkers (drop (c .loop-l .l-index + 1) (c .args .equations .now)) A) (walkers (c .args .equations .now) A) (walkers-past (c .args .equations .now) (c .loop-l .l-index) (Ends 0 0) (c .loop-l-test .taken) A (w .in-Ends .-x) (w .in-Ends .-a) (w .in-Ends .is)) (c .loop-l .inv .1 A m .1),
+    ),
+  )
+]
 
 pub loop-l-holds : need.loop-l-holds
 loop-l-holds c = (refl, λ A m. (left-start 256 (walkers (c .args .equations .now) A), refl))
 
 pub returns : need.returns
 returns c = λ A m.
-  let e : walkers (drop (c .loop-l .l-index) (c .args .equations .now)) A ≡ _ = at-drop-all (λ ys. walkers (ys) A) (c .args .equations .now) (c .loop-l .l-index) (c .loop-l-test .left) in
-  ( left-all (c .loop-l .next) (walkers (drop (c .loop-l .l-index) (c .args .equations .now)) A) (walkers (c .args .equations .now) A) e (c .loop-l .inv .1 A m .0)
-  , found-all (c .loop-l .found) (walkers (drop (c .loop-l .l-index) (c .args .equations .now)) A) (walkers (c .args .equations .now) A) e (c .loop-l .inv .1 A m .1))
+    let e : walkers (drop (c .loop-l .l-index) (c .args .equations .now)) A ≡ _ = at-drop-all (λ ys. walkers (ys) A) (c .args .equations .now) (c .loop-l .l-index) (c .loop-l-test .left) in (
+      left-all (c .loop-l .next) (walkers (drop (c .loop-l .l-index) (c .args .equations .now)) A) (walkers (c .args .equations .now) A) e (c .loop-l .inv .1 A m .0),
+      found-all (c .loop-l .found) (walkers (drop (c .loop-l .l-index) (c .args .equations .now)) A) (walkers (c .args .equations .now) A) e (c .loop-l .inv .1 A m .1),
+    )
