@@ -5,4 +5,5 @@ mod limits;
 mod refusals;
 #[cfg(test)]
 mod tables;
-pub mod trying;
+#[cfg(test)]
+mod trying;

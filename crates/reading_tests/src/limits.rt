@@ -56,8 +56,14 @@ fn lines(rt: LibcRuntime) -> Result<(), Fail> {
 
 #[test]
 fn equations(rt: LibcRuntime) -> Result<(), Fail> {
-    check_eq(outcome(with_equations(rt.alloc(), 1024)?.as_bytes()), (0, 0))?;
-    check_eq(outcome(with_equations(rt.alloc(), 1025)?.as_bytes()), (9, 1026))
+    check_eq(
+        outcome(with_equations(rt.alloc(), 1024)?.as_bytes()),
+        (0, 0),
+    )?;
+    check_eq(
+        outcome(with_equations(rt.alloc(), 1025)?.as_bytes()),
+        (9, 1026),
+    )
 }
 
 #[test]

@@ -178,8 +178,16 @@ fn readable() -> Result<(), Fail> {
         (b"m,0\nc,1,1,1\nt,1,a,63,0\nz,1\n", 0, 0),
         (b"m,1\ne,0,1,0\nf,0,1\nf,0,0\nt,1,v,0,0\nz,1\n", 0, 0),
         (b"m,2\ne,0,0,1\nt,1,v,0,0\nz,1\n", 0, 0),
-        (b"m,0\nt,1,a,0,0\nt,2,d,0,0\nt,3,+,1,2\nt,4,+,2,1\nz,2\n", 0, 0),
-        (b"m,2\nc,1,2,3\ne,0,1,1\nf,1,63\nt,1,a,0,0\nt,2,d,0,0\nt,3,v,1,0\nt,4,+,1,2\nt,5,.,3,4\nt,6,m,1,5\nt,7,l,6,6\nt,8,j,1,7\nt,9,b,8,fffffffffffffffe\nt,10,h,9,0000000000000000\nz,10\n", 0, 0),
+        (
+            b"m,0\nt,1,a,0,0\nt,2,d,0,0\nt,3,+,1,2\nt,4,+,2,1\nz,2\n",
+            0,
+            0,
+        ),
+        (
+            b"m,2\nc,1,2,3\ne,0,1,1\nf,1,63\nt,1,a,0,0\nt,2,d,0,0\nt,3,v,1,0\nt,4,+,1,2\nt,5,.,3,4\nt,6,m,1,5\nt,7,l,6,6\nt,8,j,1,7\nt,9,b,8,fffffffffffffffe\nt,10,h,9,0000000000000000\nz,10\n",
+            0,
+            0,
+        ),
     ];
     for (text, number, line) in cases {
         check_eq(outcome(text), (number, line))?;

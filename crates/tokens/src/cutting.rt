@@ -9,7 +9,7 @@ ghost use Rattle.tokens.specs.declared.cutting.Piece.the-variants.{Line, Unfin
 ghost use Rattle.tokens.specs.declared.cutting.Field.the-variants.{More, Last};
 
 // Where the stop first stands, or the end.
-pub fn end_of(bytes: &[u8], stop: u8) -> usize
+fn end_of(bytes: &[u8], stop: u8) -> usize
     ensures { λ r. ⌜ Stops (now (bytes .entry)) stop r ⌝ }
 {
     let mut e = 0;
@@ -47,13 +47,13 @@ pub fn next_line<'a>(bytes: &'a [u8]) -> Piece<'a>
 
 // A field with more behind its comma, or the last field of a line.
 #[derive(Clone, Copy)]
-pub enum Field<'a> {
+pub(crate) enum Field<'a> {
     More(&'a [u8], &'a [u8]),
     Last(&'a [u8]),
 }
 
 // The next field, and what follows its comma.
-pub fn next_field<'a>(line: &'a [u8]) -> Field<'a>
+pub(crate) fn next_field<'a>(line: &'a [u8]) -> Field<'a>
     ensures { λ r. ⌜ elim r [
       | More f rest ↦ (fields (now (line .entry)) ≡ now f ∷ fields (now rest)) × (0 < length (fields (now rest)))
       | Last f ↦ fields (now (line .entry)) ≡ now f ∷ []
@@ -67,7 +67,7 @@ pub fn next_field<'a>(line: &'a [u8]) -> Field<'a>
 }
 
 // The only field.
-pub fn one_field<'a>(line: &'a [u8]) -> Option<&'a [u8]>
+pub(crate) fn one_field<'a>(line: &'a [u8]) -> Option<&'a [u8]>
     ensures { λ r. ⌜ elim r [
       | Some f ↦ fields (now (line .entry)) ≡ now f ∷ []
       | None ↦ (length (fields (now (line .entry))) ≡ 1 → ⊥)
@@ -80,7 +80,7 @@ pub fn one_field<'a>(line: &'a [u8]) -> Option<&'a [u8]>
 }
 
 // The two fields.
-pub fn two_fields<'a>(line: &'a [u8]) -> Option<(&'a [u8], &'a [u8])>
+pub(crate) fn two_fields<'a>(line: &'a [u8]) -> Option<(&'a [u8], &'a [u8])>
     ensures { λ r. ⌜ elim r [
       | Some p ↦ fields (now (line .entry)) ≡ now (p .0) ∷ now (p .1) ∷ []
       | None ↦ (length (fields (now (line .entry))) ≡ 2 → ⊥)
@@ -96,7 +96,7 @@ pub fn two_fields<'a>(line: &'a [u8]) -> Option<(&'a [u8], &'a [u8])>
 }
 
 // The three fields.
-pub fn three_fields<'a>(line: &'a [u8]) -> Option<(&'a [u8], &'a [u8], &'a [u8])>
+pub(crate) fn three_fields<'a>(line: &'a [u8]) -> Option<(&'a [u8], &'a [u8], &'a [u8])>
     ensures { λ r. ⌜ elim r [
       | Some p ↦ fields (now (line .entry)) ≡ now (p .0) ∷ now (p .1) ∷ now (p .2) ∷ []
       | None ↦ (length (fields (now (line .entry))) ≡ 3 → ⊥)

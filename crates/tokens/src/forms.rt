@@ -16,7 +16,7 @@ use super::token::Letter;
 use super::token::Token;
 
 // The letter, a field of one byte.
-pub fn letter_of(field: &[u8]) -> Option<Letter>
+fn letter_of(field: &[u8]) -> Option<Letter>
     ensures { λ r. ⌜ letter-in (now (field .entry)) ≡ r ⌝ }
 {
     let [b] = field else {
@@ -34,7 +34,7 @@ pub fn letter_of(field: &[u8]) -> Option<Letter>
 }
 
 // The kind that a sign tells.
-pub fn kind_of(sign: Token) -> Option<Kind>
+fn kind_of(sign: Token) -> Option<Kind>
     ensures { λ r. ⌜ kind-in (text (sign .entry)) ≡ r ⌝ }
 {
     match sign {
@@ -98,7 +98,7 @@ fn term_form<'a>(rest: &'a [u8]) -> Option<Form<'a>>
 }
 
 // The fields of a line behind its letter, each with the mark of its place.
-pub fn form_by<'a>(letter: Letter, rest: &'a [u8]) -> Option<Form<'a>>
+fn form_by<'a>(letter: Letter, rest: &'a [u8]) -> Option<Form<'a>>
     ensures is { λ r. ⌜ Is shape-of r (shape-by letter (fields (now (rest .entry)))) ⌝ }
     ensures marks { λ r. ⌜ elim r [ Some f ↦ Marked f | None ↦ Unit {0} ] ⌝ }
 {

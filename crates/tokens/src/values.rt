@@ -42,7 +42,7 @@ fn digits_of(bytes: &[u8]) -> Option<u32>
 }
 
 // One to five digits with no leading zero, 0 itself excepted.
-pub fn number_of(bytes: &[u8]) -> Option<u32>
+fn number_of(bytes: &[u8]) -> Option<u32>
     ensures { λ r. ⌜ number (now (bytes .entry)) ≡ r ⌝ }
 {
     if !is_plain(bytes) || bytes.len() > 5 {
@@ -79,7 +79,7 @@ fn hex_of(bytes: &[u8]) -> Option<u64>
 }
 
 // Sixteen hexadecimal digits.
-pub fn set_of(bytes: &[u8]) -> Option<u64>
+fn set_of(bytes: &[u8]) -> Option<u64>
     ensures { λ r. ⌜ set (now (bytes .entry)) ≡ r ⌝ }
 {
     if bytes.len() != 16 {
@@ -89,7 +89,7 @@ pub fn set_of(bytes: &[u8]) -> Option<u64>
 }
 
 // The number in a token that is marked as one.
-pub fn number_in(t: Token) -> Option<u32>
+fn number_in(t: Token) -> Option<u32>
     requires { ⌜ Is-number t ⌝ }
     ensures { λ r. ⌜ value-of (t .entry) ≡ r ⌝ }
 {
@@ -101,7 +101,7 @@ pub fn number_in(t: Token) -> Option<u32>
 }
 
 // The number or set in a token, by its mark.
-pub fn value_in(t: Token) -> Option<u64>
+fn value_in(t: Token) -> Option<u64>
     ensures { λ r. ⌜ value-of (t .entry) ≡ r ⌝ }
 {
     match t {

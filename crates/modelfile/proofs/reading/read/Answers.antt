@@ -16,11 +16,11 @@ use Rattle.modelfile.proofs.reading.read.Needs as need
 held : (R : Room) (bytes : List ℕ) (t : Tables) → Holds R bytes t → reading R bytes ≡ read t
 held R bytes t h = ap (reading R) (h .text) ∙ reads-back R t (h .accepted) (subst (λ z. length z ≤ 32768) (h .text) (h .few))
 
-only : {s t : Tables} → read s ≡ read t → s ≡ t
-only e = cc
+only : (R : Room) (bytes : List ℕ) (s t : Tables) → reading R bytes ≡ read s → Holds R bytes t → t ≡ s
+only R bytes s t e h = let f : read t ≡ read s = sym (held R bytes t h) ∙ e in cc
 
-apart : {t : Tables} {k : Fault} {i : ℕ} → refused-at k i ≡ read t → ⊥
-apart e = let z : _≡_ {A = ℕ} 0 1 = cc in omega arith
+apart : (R : Room) (bytes : List ℕ) (t : Tables) (k : Fault) (i : ℕ) → reading R bytes ≡ refused-at k i → Holds R bytes t → ⊥
+apart R bytes t k i e h = let f = held R bytes t h in let z : _≡_ {A = ℕ} 0 1 = cc in omega arith
 
 pub returns-in-Ok : need.returns-in-Ok
 returns-in-Ok c =
@@ -28,7 +28,7 @@ returns-in-Ok c =
     let R : Room = room-is (c .args .lines .now) (c .args .equations .now) (c .args .terms .now) in
     record {
       holds = reads-sound R (c .args .bytes .now) (tables-is (c .in-Ok .n) (c .try-read .last .lines) (c .try-read .last .equations) (c .try-read .last .terms)) (f .reads);
-      no-other = λ t h. only (sym (held R (c .args .bytes .now) t h) ∙ f .reads);
+      no-other = λ t h. only R (c .args .bytes .now) (tables-is (c .in-Ok .n) (c .try-read .last .lines) (c .try-read .last .equations) (c .try-read .last .terms)) t (f .reads) h;
       past-lines = f .past-lines;
       past-equations = f .past-equations;
       past-terms = f .past-terms;
@@ -40,7 +40,7 @@ returns-in-Err c =
     let R : Room = room-is (c .args .lines .now) (c .args .equations .now) (c .args .terms .now) in
     record {
       refused = refuses-first R (c .args .bytes .now) (c .in-Err .e .fault) (c .in-Err .e .line) f;
-      no-model = λ t h. apart (sym f ∙ held R (c .args .bytes .now) t h);
+      no-model = λ t h. apart R (c .args .bytes .now) t (c .in-Err .e .fault) (c .in-Err .e .line) f h;
       lines-cleared = c .clear .ensures;
       equations-cleared = c .clear-in-Err .ensures;
       terms-cleared = c .clear-in-Err-2 .ensures;
