@@ -1,9 +1,10 @@
-// Lists of entries: the search for an entry that is the same as another, and clearing.
+// Lists of entries: the search for an entry that is the same as another, the question whether all differ, and clearing.
 ghost use mathlib.Core.Path.{_≡_};
 ghost use mathlib.Core.Bool.{Bool, true};
 ghost use Prim.Native.Nat.{ℕ};
 ghost use lib.ListN.{getD};
-ghost use Rattle.rows.specs.Found.{Found};
+ghost use Rattle.std.specs.Orderings.{Decides};
+ghost use Rattle.rows.specs.Found.{Differ, Found};
 
 // Entries of which one can say whether two are the same.
 pub trait Same {
@@ -29,6 +30,18 @@ pub fn find_same<T: Same>(entries: &[T], x: &T) -> Option<usize>
         }
     }
     None
+}
+
+// Whether no entry is the same as an earlier one.
+pub fn all_differ<T: Same>(entries: &[T]) -> bool
+    ensures { λ r. ⌜ Decides r (Differ same (now (entries .entry))) ⌝ }
+{
+    for k in 0..entries.len() {
+        if find_same(&entries[0..k], &entries[k]).is_some() {
+            return false;
+        }
+    }
+    true
 }
 
 // Puts the same entry everywhere.
