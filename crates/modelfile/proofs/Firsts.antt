@@ -7,11 +7,15 @@ use native.Mathlib.Omega.{arith}
 use lib.ListN.{length, take}
 use Rattle.std.specs.declared.option.Option.{Option}
 use Rattle.std.specs.declared.option.Option.the-variants.{None, Some}
+use Rattle.acceptance.proofs.Circling.{no-ring, ring-found}
+use Rattle.acceptance.specs.Accepted.{No-ring}
+use Rattle.acceptance.specs.Walks.{silent-ring}
+use Rattle.std.specs.Orderings.{Decides}
 use Rattle.processes.specs.declared.equations.Equation.{Equation}
 use Rattle.transitions.specs.declared.lines.JoinLine.{JoinLine}
 use Rattle.modelfile.specs.declared.faults.Fault.{Fault}
 use Rattle.modelfile.specs.declared.faults.Fault.the-variants.{NotAssociative, SilentRing}
-use Rattle.modelfile.specs.Computed.{Test, test, first-fault, not-associative, silent-ring, start-tests}
+use Rattle.modelfile.specs.Computed.{Test, test, first-fault, not-associative, start-tests}
 
 pub first-left : (xs ys : List Test) (k : Fault) → first-fault xs ≡ Some k → first-fault (xs ++ ys) ≡ Some k
 first-left [] ys k h = let z : _≡_ {A = ℕ} 0 1 = cc in absurd (omega arith)
@@ -31,3 +35,16 @@ first-right (test j b ∷ xs) ys h = go (first-right xs ys) b h
 
 pub start-by : (ls : List JoinLine) (es : List Equation) (x y : Bool) → not-associative ls ≡ x → silent-ring es ≡ y → first-fault (start-tests ls es) ≡ cond x (Some NotAssociative) (cond y (Some SilentRing) None)
 start-by ls es x y e f = ap₂ (λ u v. cond u (Some NotAssociative) (cond v (Some SilentRing) None)) e f
+
+-- What decides that there is no ring decides the search.
+pub ring-decided : (es : List Equation) (r : Bool) → Decides r (No-ring es) → silent-ring es ≡ not r
+ring-decided es true d = go (silent-ring es) refl
+  where
+    go : (b : Bool) → silent-ring es ≡ b → silent-ring es ≡ false
+    go true e = let w = ring-found es e in absurd (d .0 refl (w .0) (w .1))
+    go false e = e
+ring-decided es false d = go (silent-ring es) refl
+  where
+    go : (b : Bool) → silent-ring es ≡ b → silent-ring es ≡ true
+    go true e = e
+    go false e = let w : false ≡ true = d .1 (no-ring es e) in let z : _≡_ {A = ℕ} 0 1 = cc in absurd (omega arith)

@@ -10,8 +10,10 @@ use lib.ListN.{length, length-append}
 use borrow.Author.Tests.{eqb-true, eqb-false, leb-false, ltb-false, eq-eqb}
 use Rattle.std.specs.declared.option.Option.{Option}
 use Rattle.std.specs.declared.option.Option.the-variants.{None, Some}
+use Rattle.acceptance.specs.Accepted.{Equation-fits, equation-at, Earlier, Term-fits, entry-at}
+use Rattle.acceptance.specs.Walks.{silent-ring}
+use Rattle.rows.specs.Found.{Differ}
 use Rattle.processes.specs.Sameness.{first, second, same-equation, same-term}
-use Rattle.processes.specs.Store.{nth, term-at}
 use Rattle.processes.specs.declared.equations.Equation.{Equation}
 use Rattle.processes.specs.declared.equations.Equation.the-variants as equation
 use Rattle.processes.specs.declared.terms.Term.{Term}
@@ -22,14 +24,13 @@ use Rattle.tokens.specs.declared.token.Kind.the-variants.{Action, Deadlock, Var
 use Rattle.transitions.specs.Listed.{line-at, Once, Visible-line, names}
 use Rattle.transitions.specs.Made.{Visible}
 use Rattle.transitions.specs.declared.lines.JoinLine.{JoinLine}
-use Rattle.modelfile.specs.Accepted.{Room, Each, Equation-fits, Earlier, Term-fits, Is-set, Apart}
-use Rattle.modelfile.specs.Computed.{Test, test, first-fault, tests-of, fault-said, at-start, not-associative, silent-ring}
+use Rattle.modelfile.specs.Accepted.{Room, Equation-below, Term-below}
+use Rattle.modelfile.specs.Computed.{Test, test, first-fault, tests-of, fault-said, at-start, not-associative}
 use Rattle.modelfile.specs.Entries.{entry-of, term-of}
 use Rattle.modelfile.specs.Tables.{kind-of, line-says, equation-says, term-says, lines-before, equations-before, terms-before}
 use Rattle.modelfile.specs.Tests.{Sofar, turn-of, after, out-of-turn, over-limit, not-before, operand-not-before, wrong-number, odd-set, silent-used, any, said-before, full, too-many, start-of}
 use Rattle.modelfile.proofs.Groups.{no-way, or-false, not-false}
-use Rattle.modelfile.proofs.Onces.{place-snoc, once-snoc}
-use Rattle.modelfile.proofs.Places.{no-nth, nth-snoc, each-snoc, none-in, apart-snoc, any-false}
+use Rattle.modelfile.proofs.Onces.{place-snoc, no-place, differ-snoc, once-snoc}
 use Rattle.modelfile.proofs.Spelled.{Fields-fit, Set-fits}
 
 -- the tests of a line
@@ -47,19 +48,19 @@ first-none (test k b ∷ ts) h = go (first-none ts) b h
 
 module _ (R : Room) where
   pub record Passes (S : Sofar) (s : Said) : Type 0 where
-    pub p4 : out-of-turn (S .turn) (turn-of s) ≡ false
-    pub p5 : over-limit (S .variables) s ≡ false
-    pub p6 : wrong-number (length (S .terms)) s ≡ false
-    pub p7 : silent-used s ≡ false
-    pub p8 : said-before S (entry-of s) ≡ false
-    pub p9 : too-many R (length (S .lines)) (length (S .equations)) (length (S .terms)) (entry-of s) ≡ false
-    pub p10 : at-start (not-associative (S .lines)) (start-of (entry-of s)) ≡ false
-    pub p11 : at-start (silent-ring (S .equations)) (start-of (entry-of s)) ≡ false
+    pub in-turn : out-of-turn (S .turn) (turn-of s) ≡ false
+    pub within-limit : over-limit (S .variables) s ≡ false
+    pub right-number : wrong-number (length (S .terms)) s ≡ false
+    pub all-visible : silent-used s ≡ false
+    pub not-said : said-before S (entry-of s) ≡ false
+    pub not-many : too-many R (length (S .lines)) (length (S .equations)) (length (S .terms)) (entry-of s) ≡ false
+    pub grouped : at-start (not-associative (S .lines)) (start-of (entry-of s)) ≡ false
+    pub ringless : at-start (silent-ring (S .equations)) (start-of (entry-of s)) ≡ false
 
   pub passes : (S : Sofar) (s : Said) → fault-said R S s ≡ None → Passes S s
   passes S s h =
       let a = first-none (tests-of R S s) h in
-      record { p4 = a .0; p5 = a .1 .0; p6 = a .1 .1 .0; p7 = a .1 .1 .1 .0; p8 = a .1 .1 .1 .1 .0; p9 = a .1 .1 .1 .1 .1 .0; p10 = a .1 .1 .1 .1 .1 .1 .0; p11 = a .1 .1 .1 .1 .1 .1 .1 .0 }
+      record { in-turn = a .0; within-limit = a .1 .0; right-number = a .1 .1 .0; all-visible = a .1 .1 .1 .0; not-said = a .1 .1 .1 .1 .0; not-many = a .1 .1 .1 .1 .1 .0; grouped = a .1 .1 .1 .1 .1 .1 .0; ringless = a .1 .1 .1 .1 .1 .1 .1 .0 }
 
 full-false : (limit room : ℕ) {A : Type 0} (xs : List A) (x : A) → full limit room (length xs) ≡ false → (length (xs ++ (x ∷ [])) ≤ limit) × (length (xs ++ (x ∷ [])) ≤ room)
 full-false limit room xs x h =
@@ -81,18 +82,11 @@ line-visible v a b r h k =
     let w = or-false (eqb a 0) (eqb b 0) (u .0) in
     (visible a (y .0) (w .0), visible b (y .1) (w .1), visible r (x .1) (u .1))
 
-equation-same : (e : Equation) → same-equation e e ≡ true
-equation-same (equation.Ends x a) = ap₂ _&&_ (eq-eqb x x refl) (eq-eqb a a refl)
-equation-same (equation.Becomes x a y) = ap₂ _&&_ (ap₂ _&&_ (eq-eqb x x refl) (eq-eqb a a refl)) (eq-eqb y y refl)
+ends-below : (v x a : ℕ) → over-limit v (Ends x a) ≡ false → Equation-below v (equation.Ends x a) × Equation-fits (equation.Ends x a)
+ends-below v x a h = let w = or-false (leb v x) (ltb 63 a) h in let l : a ≤ 63 = ltb-false _ _ (w .1) in (leb-false _ _ (w .0), omega arith)
 
-term-same : (t : Term) → same-term t t ≡ true
-term-same t = ap₂ _&&_ (ap₂ _&&_ (eq-eqb _ _ refl) (eq-eqb (first t) (first t) refl)) (eq-eqb (second t) (second t) refl)
-
-ends-fits : (v x a : ℕ) → over-limit v (Ends x a) ≡ false → Equation-fits v (equation.Ends x a)
-ends-fits v x a h = let w = or-false (leb v x) (ltb 63 a) h in (leb-false _ _ (w .0), ltb-false _ _ (w .1))
-
-becomes-fits : (v x a y : ℕ) → over-limit v (Becomes x a y) ≡ false → Equation-fits v (equation.Becomes x a y)
-becomes-fits v x a y h = let w = or-false (leb v x || ltb 63 a) (leb v y) h in let u = or-false (leb v x) (ltb 63 a) (w .0) in (leb-false _ _ (u .0), ltb-false _ _ (u .1), leb-false _ _ (w .1))
+becomes-below : (v x a y : ℕ) → over-limit v (Becomes x a y) ≡ false → Equation-below v (equation.Becomes x a y) × Equation-fits (equation.Becomes x a y)
+becomes-below v x a y h = let w = or-false (leb v x || ltb 63 a) (leb v y) h in let u = or-false (leb v x) (ltb 63 a) (w .0) in let l : a ≤ 63 = ltb-false _ _ (u .1) in ((leb-false _ _ (u .0), leb-false _ _ (w .1)), omega arith)
 
 is-zero : (q : ℕ) → not (eqb q 0) ≡ false → q ≡ 0
 is-zero q h = eqb-true q 0 (not-false (eqb q 0) h)
@@ -106,17 +100,29 @@ earlier2 n p q h = let w = or-false (not-before n p) (not-before n q) h in (earl
 even : (q : ℕ) → eqb (q % 2) 1 ≡ false → q % 2 ≡ 0
 even q h = let n : q % 2 ≡ 1 → ⊥ = eqb-false (q % 2) 1 h in omega arith
 
-term-fits : (v n : ℕ) (k : Kind) (p q : ℕ) → over-limit v (Gives n k p q) ≡ false → operand-not-before n k p q ≡ false → odd-set k q ≡ false → Set-fits k q → Term-fits v n (term-of k p q)
-term-fits v n Action p q h e o f = ltb-false _ _ (or-false (ltb 63 p) (not (eqb q 0)) h .0)
-term-fits v n Deadlock p q h e o f = tt
-term-fits v n Variable p q h e o f = leb-false _ _ (or-false (leb v p) (not (eqb q 0)) h .0)
-term-fits v n Choice p q h e o f = earlier2 n p q e
-term-fits v n Sequence p q h e o f = earlier2 n p q e
-term-fits v n Merge p q h e o f = earlier2 n p q e
-term-fits v n LeftMerge p q h e o f = earlier2 n p q e
-term-fits v n CommMerge p q h e o f = earlier2 n p q e
-term-fits v n Block p q h e o f = (earlier n p e, (f, even q o))
-term-fits v n Hide p q h e o f = (earlier n p e, (f, even q o))
+term-fits : (v n : ℕ) (k : Kind) (p q : ℕ) → over-limit v (Gives n k p q) ≡ false → operand-not-before n k p q ≡ false → odd-set k q ≡ false → Term-fits n (term-of k p q)
+term-fits v n Action p q h e o = let l : p ≤ 63 = ltb-false _ _ (or-false (ltb 63 p) (not (eqb q 0)) h .0) in omega arith
+term-fits v n Deadlock p q h e o = tt
+term-fits v n Variable p q h e o = tt
+term-fits v n Choice p q h e o = earlier2 n p q e
+term-fits v n Sequence p q h e o = earlier2 n p q e
+term-fits v n Merge p q h e o = earlier2 n p q e
+term-fits v n LeftMerge p q h e o = earlier2 n p q e
+term-fits v n CommMerge p q h e o = earlier2 n p q e
+term-fits v n Block p q h e o = (earlier n p e, even q o)
+term-fits v n Hide p q h e o = (earlier n p e, even q o)
+
+term-below : (v n : ℕ) (k : Kind) (p q : ℕ) → over-limit v (Gives n k p q) ≡ false → Set-fits k q → Term-below v (term-of k p q)
+term-below v n Action p q h f = tt
+term-below v n Deadlock p q h f = tt
+term-below v n Variable p q h f = leb-false _ _ (or-false (leb v p) (not (eqb q 0)) h .0)
+term-below v n Choice p q h f = tt
+term-below v n Sequence p q h f = tt
+term-below v n Merge p q h f = tt
+term-below v n LeftMerge p q h f = tt
+term-below v n CommMerge p q h f = tt
+term-below v n Block p q h f = f
+term-below v n Hide p q h f = f
 
 -- a term's line says it again
 says-again : (v n : ℕ) (k : Kind) (p q : ℕ) → over-limit v (Gives n k p q) ≡ false → term-says n (term-of k p q) ≡ Gives n k p q
@@ -131,18 +137,6 @@ says-again v n CommMerge p q h = refl
 says-again v n Block p q h = refl
 says-again v n Hide p q h = refl
 
-fits-snoc : (v : ℕ) (ts : List Term) (t : Term) → ((n : ℕ) (s : Term) → term-at ts n ≡ Some s → Term-fits v n s) → Term-fits v (suc (length ts)) t → (n : ℕ) (s : Term) → term-at (ts ++ (t ∷ [])) n ≡ Some s → Term-fits v n s
-fits-snoc v ts t h w zero s e = let z : _≡_ {A = ℕ} 0 1 = cc in absurd (omega arith)
-fits-snoc v ts t h w (suc i) s e = go (nth-snoc ts t i s e)
-  where
-    go : (nth ts i ≡ Some s) ⊎ ((i ≡ length ts) × (t ≡ s)) → Term-fits v (suc i) s
-    go (inl a) = h (suc i) s a
-    go (inr a) = subst (λ j. Term-fits v (suc j) s) (sym (a .0)) (subst (Term-fits v (suc (length ts))) (a .1) w)
-
-no-terms : (v : ℕ) (ts : List Term) → ts ≡ [] → (n : ℕ) (s : Term) → term-at ts n ≡ Some s → Term-fits v n s
-no-terms v ts e zero s h = let z : _≡_ {A = ℕ} 0 1 = cc in absurd (omega arith)
-no-terms v ts e (suc i) s h = no-nth i s (subst (λ xs. nth xs i ≡ Some s) e h)
-
 -- ---- what holds of what has been read
 module _ (R : Room) where
   pub record Good (S : Sofar) : Type 0 where
@@ -155,10 +149,12 @@ module _ (R : Room) where
     pub terms-few : (length (S .terms) ≤ 256) × (length (S .terms) ≤ R .for-terms)
     pub lines-visible : (k : ℕ) → k < length (S .lines) → Visible-line (line-at (S .lines) k)
     pub lines-once : Once (S .lines)
-    pub equations-fit : Each (Equation-fits (S .variables)) (S .equations)
-    pub equations-once : Apart (S .equations)
-    pub terms-fit : (n : ℕ) (s : Term) → term-at (S .terms) n ≡ Some s → Term-fits (S .variables) n s
-    pub terms-once : Apart (S .terms)
+    pub equations-fit : (k : ℕ) → k < length (S .equations) → Equation-fits (equation-at (S .equations) k)
+    pub equations-below : (k : ℕ) → k < length (S .equations) → Equation-below (S .variables) (equation-at (S .equations) k)
+    pub equations-once : Differ same-equation (S .equations)
+    pub terms-fit : (k : ℕ) → k < length (S .terms) → Term-fits (k + 1) (entry-at (S .terms) k)
+    pub terms-below : (k : ℕ) → k < length (S .terms) → Term-below (S .variables) (entry-at (S .terms) k)
+    pub terms-once : Differ same-term (S .terms)
 
   abbrev pub said-at : ℕ → Sofar → List Said
   said-at zero S = []
@@ -172,83 +168,47 @@ module _ (R : Room) where
   first-turn zero h = refl
   first-turn (suc k) h = no-way h
 
-  good-equation : (S : Sofar) (e : Equation) → Good S → out-of-turn (S .turn) 2 ≡ false → Equation-fits (S .variables) e → any (λ d. same-equation d e) (S .equations) ≡ false → full 1024 (R .for-equations) (length (S .equations)) ≡ false
-      → Good (record { turn = 3; variables = S .variables; lines = S .lines; equations = S .equations ++ (e ∷ []); terms = S .terms })
+  good-equation : (S : Sofar) (e : Equation) → Good S → out-of-turn (S .turn) 2 ≡ false → Equation-below (S .variables) e × Equation-fits e → any (λ d. same-equation d e) (S .equations) ≡ false → full 1024 (R .for-equations) (length (S .equations)) ≡ false
+    → Good (record { turn = 3; variables = S .variables; lines = S .lines; equations = S .equations ++ (e ∷ []); terms = S .terms })
   good-equation S e g o w f m =
       let t = turn-is (S .turn) 2 (omega arith) o in
-      record {
-        before-lines = λ l. absurd (omega arith);
-        before-equations = λ l. absurd (omega arith);
-        before-terms = λ _. g .before-terms (omega arith);
-        variables-few = g .variables-few;
-        lines-few = g .lines-few;
-        equations-few = full-false 1024 (R .for-equations) (S .equations) e m;
-        terms-few = g .terms-few;
-        lines-visible = g .lines-visible;
-        lines-once = g .lines-once;
-        equations-fit = each-snoc (Equation-fits (S .variables)) (S .equations) e (g .equations-fit) w;
-        equations-once = apart-snoc (S .equations) e (g .equations-once) (λ i h. no-way (sym (equation-same e) ∙ any-false (λ d. same-equation d e) (S .equations) f i e h));
-        terms-fit = g .terms-fit;
-        terms-once = g .terms-once;
-      }
+      record { before-lines = λ l. absurd (omega arith); before-equations = λ l. absurd (omega arith); before-terms = λ _. g .before-terms (omega arith);
+        variables-few = g .variables-few; lines-few = g .lines-few; equations-few = full-false 1024 (R .for-equations) (S .equations) e m; terms-few = g .terms-few;
+        lines-visible = g .lines-visible; lines-once = g .lines-once;
+        equations-fit = place-snoc (λ _. Equation-fits) (S .equations) e _ (g .equations-fit) (w .1);
+        equations-below = place-snoc (λ _. Equation-below (S .variables)) (S .equations) e _ (g .equations-below) (w .0);
+        equations-once = differ-snoc same-equation (S .equations) e (g .equations-once) f;
+        terms-fit = g .terms-fit; terms-below = g .terms-below; terms-once = g .terms-once }
 
   pub good-after : (S : Sofar) (s : Said) → Good S → Passes R S s → start-of (entry-of s) ≡ None → Fields-fit s → Good (after S (entry-of s))
   good-after S (Variables v) g p n f =
-      let z : S .turn ≡ 0 = first-turn (S .turn) (p .p4) in
-      record {
-        before-lines = λ _. g .before-lines (omega arith);
-        before-equations = λ _. g .before-equations (omega arith);
-        before-terms = λ _. g .before-terms (omega arith);
-        variables-few = ltb-false 256 v (p .p5);
-        lines-few = g .lines-few;
-        equations-few = g .equations-few;
-        terms-few = g .terms-few;
-        lines-visible = g .lines-visible;
-        lines-once = g .lines-once;
-        equations-fit = none-in (Equation-fits v) (S .equations) (g .before-equations (omega arith));
-        equations-once = g .equations-once;
-        terms-fit = no-terms v (S .terms) (g .before-terms (omega arith));
-        terms-once = g .terms-once;
-      }
+      let z : S .turn ≡ 0 = first-turn (S .turn) (p .in-turn) in
+      record { before-lines = λ _. g .before-lines (omega arith); before-equations = λ _. g .before-equations (omega arith); before-terms = λ _. g .before-terms (omega arith);
+        variables-few = ltb-false 256 v (p .within-limit); lines-few = g .lines-few; equations-few = g .equations-few; terms-few = g .terms-few;
+        lines-visible = g .lines-visible; lines-once = g .lines-once; equations-fit = g .equations-fit;
+        equations-below = no-place (λ _. Equation-below v) (S .equations) _ (g .before-equations (omega arith)); equations-once = g .equations-once;
+        terms-fit = g .terms-fit; terms-below = no-place (λ _. Term-below v) (S .terms) _ (g .before-terms (omega arith)); terms-once = g .terms-once }
   good-after S (Joins a b r) g p n f =
-      let t = turn-is (S .turn) 1 (omega arith) (p .p4) in
+      let t = turn-is (S .turn) 1 (omega arith) (p .in-turn) in
       let l : JoinLine = record { a = a; b = b; joint = r } in
-      record {
-        before-lines = λ l. absurd (omega arith);
-        before-equations = λ _. g .before-equations (omega arith);
-        before-terms = λ _. g .before-terms (omega arith);
-        variables-few = g .variables-few;
-        lines-few = full-false 32 (R .for-lines) (S .lines) l (p .p9);
-        equations-few = g .equations-few;
-        terms-few = g .terms-few;
-        lines-visible = place-snoc Visible-line (S .lines) l _ (g .lines-visible) (line-visible (S .variables) a b r (p .p5) (p .p7));
-        lines-once = once-snoc (S .lines) l (g .lines-once) (p .p8);
-        equations-fit = g .equations-fit;
-        equations-once = g .equations-once;
-        terms-fit = g .terms-fit;
-        terms-once = g .terms-once;
-      }
-  good-after S (Becomes x a y) g p n f = good-equation S (equation.Becomes x a y) g (p .p4) (becomes-fits (S .variables) x a y (p .p5)) (p .p8) (p .p9)
-  good-after S (Ends x a) g p n f = good-equation S (equation.Ends x a) g (p .p4) (ends-fits (S .variables) x a (p .p5)) (p .p8) (p .p9)
+      record { before-lines = λ l. absurd (omega arith); before-equations = λ _. g .before-equations (omega arith); before-terms = λ _. g .before-terms (omega arith);
+        variables-few = g .variables-few; lines-few = full-false 32 (R .for-lines) (S .lines) l (p .not-many); equations-few = g .equations-few; terms-few = g .terms-few;
+        lines-visible = place-snoc (λ _. Visible-line) (S .lines) l _ (g .lines-visible) (line-visible (S .variables) a b r (p .within-limit) (p .all-visible));
+        lines-once = once-snoc (S .lines) l (g .lines-once) (p .not-said);
+        equations-fit = g .equations-fit; equations-below = g .equations-below; equations-once = g .equations-once; terms-fit = g .terms-fit; terms-below = g .terms-below; terms-once = g .terms-once }
+  good-after S (Becomes x a y) g p n f = good-equation S (equation.Becomes x a y) g (p .in-turn) (becomes-below (S .variables) x a y (p .within-limit)) (p .not-said) (p .not-many)
+  good-after S (Ends x a) g p n f = good-equation S (equation.Ends x a) g (p .in-turn) (ends-below (S .variables) x a (p .within-limit)) (p .not-said) (p .not-many)
   good-after S (Gives m k i j) g p n f =
-      let w = or-false (not (eqb m (suc (length (S .terms))))) (operand-not-before m k i j) (p .p6) in
+      let w = or-false (not (eqb m (suc (length (S .terms))))) (operand-not-before m k i j) (p .right-number) in
       let u : m ≡ suc (length (S .terms)) = eqb-true m (suc (length (S .terms))) (not-false (eqb m (suc (length (S .terms)))) (w .0)) in
+      let e : m ≡ length (S .terms) + 1 = omega arith in
       let t : Term = term-of k i j in
-      record {
-        before-lines = λ l. absurd (omega arith);
-        before-equations = λ l. absurd (omega arith);
-        before-terms = λ l. absurd (omega arith);
-        variables-few = g .variables-few;
-        lines-few = g .lines-few;
-        equations-few = g .equations-few;
-        terms-few = full-false 256 (R .for-terms) (S .terms) t (p .p9);
-        lines-visible = g .lines-visible;
-        lines-once = g .lines-once;
-        equations-fit = g .equations-fit;
-        equations-once = g .equations-once;
-        terms-fit = fits-snoc (S .variables) (S .terms) t (g .terms-fit) (subst (λ n. Term-fits (S .variables) n t) u (term-fits (S .variables) m k i j (p .p5) (w .1) (p .p7) f));
-        terms-once = apart-snoc (S .terms) t (g .terms-once) (λ i h. no-way (sym (term-same t) ∙ any-false (λ s. same-term s t) (S .terms) (p .p8) i t h));
-      }
+      record { before-lines = λ l. absurd (omega arith); before-equations = λ l. absurd (omega arith); before-terms = λ l. absurd (omega arith);
+        variables-few = g .variables-few; lines-few = g .lines-few; equations-few = g .equations-few; terms-few = full-false 256 (R .for-terms) (S .terms) t (p .not-many);
+        lines-visible = g .lines-visible; lines-once = g .lines-once; equations-fit = g .equations-fit; equations-below = g .equations-below; equations-once = g .equations-once;
+        terms-fit = place-snoc (λ k. Term-fits (k + 1)) (S .terms) t _ (g .terms-fit) (subst (λ n. Term-fits n t) e (term-fits (S .variables) m k i j (p .within-limit) (w .1) (p .all-visible)));
+        terms-below = place-snoc (λ _. Term-below (S .variables)) (S .terms) t _ (g .terms-below) (term-below (S .variables) m k i j (p .within-limit) f);
+        terms-once = differ-snoc same-term (S .terms) t (g .terms-once) (p .not-said) }
   good-after S (Starts m) g p n f = let z : _≡_ {A = ℕ} 0 1 = cc in absurd (omega arith)
 
   -- the lines said so far
@@ -302,22 +262,22 @@ module _ (R : Room) where
 
   pub said-after : (S : Sofar) (s : Said) → Good S → Passes R S s → start-of (entry-of s) ≡ None → said-at (after S (entry-of s) .turn) (after S (entry-of s)) ≡ said-at (S .turn) S ++ (s ∷ [])
   said-after S (Variables v) g p n =
-      let z : S .turn ≡ 0 = first-turn (S .turn) (p .p4) in
+      let z : S .turn ≡ 0 = first-turn (S .turn) (p .in-turn) in
       let a : S .lines ≡ [] = g .before-lines (omega arith) in
       let b : S .equations ≡ [] = g .before-equations (omega arith) in
       let c : S .terms ≡ [] = g .before-terms (omega arith) in
       ap (λ r. Variables v ∷ r) (ap₂ (λ x y. all-before x y (S .terms) []) a b ∙ ap (λ x. all-before [] [] x []) c) ∙ sym (ap (λ k. said-at k S ++ (Variables v ∷ [])) z)
   said-after S (Joins a b r) g p n =
-      let t = turn-is (S .turn) 1 (omega arith) (p .p4) in
+      let t = turn-is (S .turn) 1 (omega arith) (p .in-turn) in
       later-turn S (Joins a b r) (t .0) _ (said-line S (record { a = a; b = b; joint = r }) (g .before-equations (omega arith)) (g .before-terms (omega arith)))
   said-after S (Becomes x a y) g p n =
-      let t = turn-is (S .turn) 2 (omega arith) (p .p4) in
+      let t = turn-is (S .turn) 2 (omega arith) (p .in-turn) in
       later-turn S (Becomes x a y) (t .0) _ (said-equation S (equation.Becomes x a y) (g .before-terms (omega arith)))
   said-after S (Ends x a) g p n =
-      let t = turn-is (S .turn) 2 (omega arith) (p .p4) in
+      let t = turn-is (S .turn) 2 (omega arith) (p .in-turn) in
       later-turn S (Ends x a) (t .0) _ (said-equation S (equation.Ends x a) (g .before-terms (omega arith)))
   said-after S (Gives m k i j) g p n =
-      let t = turn-is (S .turn) 3 (omega arith) (p .p4) in
-      let w = or-false (not (eqb m (suc (length (S .terms))))) (operand-not-before m k i j) (p .p6) in
-      later-turn S (Gives m k i j) (t .0) _ (said-term S m (term-of k i j) (eqb-true m (suc (length (S .terms))) (not-false (eqb m (suc (length (S .terms)))) (w .0))) ∙ ap (λ z. all-before (S .lines) (S .equations) (S .terms) [] ++ (z ∷ [])) (says-again (S .variables) m k i j (p .p5)))
+      let t = turn-is (S .turn) 3 (omega arith) (p .in-turn) in
+      let w = or-false (not (eqb m (suc (length (S .terms))))) (operand-not-before m k i j) (p .right-number) in
+      later-turn S (Gives m k i j) (t .0) _ (said-term S m (term-of k i j) (eqb-true m (suc (length (S .terms))) (not-false (eqb m (suc (length (S .terms)))) (w .0))) ∙ ap (λ z. all-before (S .lines) (S .equations) (S .terms) [] ++ (z ∷ [])) (says-again (S .variables) m k i j (p .within-limit)))
   said-after S (Starts m) g p n = let z : _≡_ {A = ℕ} 0 1 = cc in absurd (omega arith)

@@ -1,4 +1,3 @@
-pub mod Walks
 pub mod Finding
 pub mod Groups
 pub mod Firsts
@@ -7,9 +6,7 @@ pub mod Stores
 pub mod Loops
 pub mod Spelled
 pub mod Writings
-pub mod Places
 pub mod Goods
-pub mod Circles
 pub mod Sounds
 pub mod Backs
 pub mod Refusing

@@ -17,13 +17,15 @@ use Rattle.tokens.specs.declared.said.Said.the-variants.{Variables, Joins, Beco
 use Rattle.transitions.specs.Listed.{Once, Associative}
 use Rattle.modelfile.specs.declared.faults.Fault.{Fault}
 use Rattle.modelfile.specs.declared.faults.Fault.the-variants.{TooLong, NoForm, NoValue, OutOfTurn, OverLimit, WrongNumber, SilentUsed, SaidBefore, TooMany, NotAssociative, SilentRing, WrongEnd}
-use Rattle.modelfile.specs.Accepted.{Room, Silently}
-use Rattle.modelfile.specs.Computed.{Test, test, first-fault, tests-of, fault-said, at-start, not-associative, silent-ring, Judged, faulty, fine, judged, Answer, read, refused-at, ended, read-lines, reading}
+use Rattle.acceptance.proofs.Circling.{no-ring, ring-found}
+use Rattle.acceptance.specs.Accepted.{Silently}
+use Rattle.acceptance.specs.Walks.{silent-ring}
+use Rattle.modelfile.specs.Accepted.{Room}
+use Rattle.modelfile.specs.Computed.{Test, test, first-fault, tests-of, fault-said, at-start, not-associative, Judged, faulty, fine, judged, Answer, read, refused-at, ended, read-lines, reading}
 use Rattle.modelfile.specs.Entries.{entry-of}
 use Rattle.modelfile.specs.Faults.{number-of}
 use Rattle.modelfile.specs.Refusals.{Names-start, Wrong, Applies, no-form, no-value, wrong, Least, Says, Upto, here, on, Refused, too-long, at-line, no-start, goes-on}
 use Rattle.modelfile.specs.Tests.{Sofar, nothing, after, start-of}
-use Rattle.modelfile.proofs.Circles.{no-ring, ring-found}
 use Rattle.modelfile.proofs.Groups.{no-way, associative-from, associative-no}
 use Rattle.modelfile.proofs.Onces.{once-snoc, not-true}
 

@@ -8,21 +8,18 @@ use lib.Dec.{ltb}
 use lib.ListN.{length}
 use borrow.Author.Tests.{ltb-false}
 use Rattle.std.specs.declared.option.Option.the-variants.{None, Some}
-use Rattle.processes.specs.Store.{term-at}
-use Rattle.processes.specs.declared.terms.Term.{Term}
+use Rattle.acceptance.proofs.Circling.{no-ring}
 use Rattle.tokens.specs.Lines.{raw-lines}
 use Rattle.tokens.specs.declared.said.Said.{Said}
 use Rattle.tokens.specs.declared.said.Said.the-variants.{Variables, Starts}
 use Rattle.modelfile.specs.declared.faults.Fault.the-variants.{TooLong}
-use Rattle.modelfile.specs.Accepted.{Room, Accepted, Term-fits}
+use Rattle.modelfile.specs.Accepted.{Room, Accepted}
 use Rattle.modelfile.specs.Computed.{Answer, read, refused-at, read-lines, reading}
 use Rattle.modelfile.specs.Promise.{Holds}
 use Rattle.modelfile.specs.Tables.{Tables, written-line, written, all-lines, render}
 use Rattle.modelfile.specs.Tests.{Sofar, nothing}
-use Rattle.modelfile.proofs.Circles.{no-ring}
 use Rattle.modelfile.proofs.Goods.{Good, Passes, passes, said-at, all-on, good-after, said-after, turn-is, earlier}
 use Rattle.modelfile.proofs.Groups.{associative-from}
-use Rattle.modelfile.proofs.Places.{no-nth, none-in}
 use Rattle.modelfile.proofs.Spelled.{unlines, unlines-lines, Chain, done, next, tables-of, Chained, chained}
 
 -- all that is read
@@ -34,21 +31,25 @@ module _ (R : Room) where
   at-start : (S : Sofar) (n : ℕ) → Good R S → Passes R S (Starts n) → Whole S [] n S
   at-start S n g p = record {
     accepted = record {
+      tables = record {
+        lines-fit = record { few = g .lines-few .0; visible = g .lines-visible; once = g .lines-once; associative = associative-from (S .lines) (g .lines-once) (p .grouped) };
+        equations-few = g .equations-few .0;
+        equations-fit = g .equations-fit;
+        equations-once = g .equations-once;
+        no-ring = no-ring (S .equations) (p .ringless);
+        terms-few = g .terms-few .0;
+        terms-fit = g .terms-fit;
+        terms-once = g .terms-once;
+        started = let e = earlier (suc (length (S .terms))) n (p .right-number) in (e .0, omega arith);
+      };
       variables-few = g .variables-few;
-      acceptable = record { few = g .lines-few .0; visible = g .lines-visible; once = g .lines-once; associative = associative-from (S .lines) (g .lines-once) (p .p10) };
+      equations-below = g .equations-below;
+      terms-below = g .terms-below;
       lines-room = g .lines-few .1;
-      equations-few = g .equations-few .0;
       equations-room = g .equations-few .1;
-      equations-fit = g .equations-fit;
-      equations-once = g .equations-once;
-      terms-few = g .terms-few .0;
       terms-room = g .terms-few .1;
-      terms-fit = g .terms-fit;
-      terms-once = g .terms-once;
-      starts = let e = earlier (suc (length (S .terms))) n (p .p6) in (e .0, omega arith);
-      no-ring = no-ring (S .equations) (p .p11);
     };
-    said = go (S .turn) (turn-is R (S .turn) 4 (omega arith) (p .p4) .0);
+    said = go (S .turn) (turn-is R (S .turn) 4 (omega arith) (p .in-turn) .0);
   }
     where
       go : (k : ℕ) → 0 < k → said-at R k S ++ (Starts n ∷ []) ≡ all-lines (tables-of R S n)
@@ -63,25 +64,10 @@ module _ (R : Room) where
       record { accepted = w .accepted; said = sym (append-assoc (said-at R (S .turn) S) (s ∷ []) (ss ++ (Starts n ∷ []))) ∙ ap (λ z. z ++ (ss ++ (Starts n ∷ []))) (sym (said-after R S s g p k)) ∙ w .said }
 
   good-nothing : Good R nothing
-  good-nothing = record {
-    before-lines = λ _. refl;
-    before-equations = λ _. refl;
-    before-terms = λ _. refl;
-    variables-few = omega arith;
-    lines-few = (omega arith, omega arith);
-    equations-few = (omega arith, omega arith);
-    terms-few = (omega arith, omega arith);
-    lines-visible = λ k l. absurd (omega arith);
-    lines-once = λ j k a b l m _ _. omega arith;
-    equations-fit = none-in _ [] refl;
-    equations-once = λ i j x e f. no-nth i x e;
-    terms-fit = λ n s h. no-at n s h;
-    terms-once = λ i j x e f. no-nth i x e;
-  }
-    where
-      no-at : (n : ℕ) (s : Term) → term-at [] n ≡ Some s → Term-fits 0 n s
-      no-at zero s h = let z : _≡_ {A = ℕ} 0 1 = cc in absurd (omega arith)
-      no-at (suc n) s h = no-nth n s h
+  good-nothing = record { before-lines = λ _. refl; before-equations = λ _. refl; before-terms = λ _. refl; variables-few = omega arith; lines-few = (omega arith, omega arith); equations-few = (omega arith, omega arith); terms-few = (omega arith, omega arith);
+      lines-visible = λ k l. absurd (omega arith); lines-once = λ j k a b l m _ _. omega arith;
+      equations-fit = λ k l. absurd (omega arith); equations-below = λ k l. absurd (omega arith); equations-once = λ j k d l m. absurd (omega arith);
+      terms-fit = λ k l. absurd (omega arith); terms-below = λ k l. absurd (omega arith); terms-once = λ j k d l m. absurd (omega arith) }
 
   written-end : (ss : List Said) (s : Said) → written ss ++ written-line s ≡ written (ss ++ (s ∷ []))
   written-end [] s = sym (append-nil (written-line s))

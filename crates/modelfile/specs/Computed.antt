@@ -6,8 +6,8 @@ use lib.Dec.{eqb, ltb}
 use lib.ListN.{length}
 use Rattle.std.specs.declared.option.Option.{Option}
 use Rattle.std.specs.declared.option.Option.the-variants.{None, Some}
+use Rattle.acceptance.specs.Walks.{silent-ring}
 use Rattle.processes.specs.declared.equations.Equation.{Equation}
-use Rattle.processes.specs.declared.equations.Equation.the-variants.{Ends, Becomes}
 use Rattle.tokens.specs.Forms.{and-then, shape, values}
 use Rattle.tokens.specs.Lines.{Raw, raw-lines}
 use Rattle.tokens.specs.declared.said.Said.{Said}
@@ -40,31 +40,6 @@ right-first ls a b c = and-then (listed-joins ls b c) (λ d. listed-joins ls a d
 
 abbrev pub not-associative : List JoinLine → Bool
 not-associative ls = any (λ a. any (λ b. any (λ c. not (same-answer (left-first ls a b c) (right-first ls a b c))) (partners ls)) (partners ls)) (partners ls)
-
--- ---- from which variables a silent walk of so many steps starts
-abbrev pub member : ℕ → List ℕ → Bool
-member x ys = any (λ y. eqb x y) ys
-
-abbrev pub walkers : List Equation → List ℕ → List ℕ
-walkers [] A = []
-walkers (Ends x a ∷ es) A = walkers es A
-walkers (Becomes x a y ∷ es) A = cond (eqb a 0 && member y A) (x ∷ walkers es A) (walkers es A)
-
-abbrev pub walk : List Equation → ℕ → List ℕ → List ℕ
-walk E zero A = A
-walk E (suc k) A = walk E k (walkers E A)
-
-abbrev pub targets : List Equation → List ℕ
-targets [] = []
-targets (Ends x a ∷ es) = targets es
-targets (Becomes x a y ∷ es) = y ∷ targets es
-
-abbrev pub some? : List ℕ → Bool
-some? [] = false
-some? (x ∷ xs) = true
-
-abbrev pub silent-ring : List Equation → Bool
-silent-ring E = some? (walk E (suc (length E)) (targets E))
 
 -- ---- the fault of a line: the first test that holds
 abbrev pub at-start : Bool → Option ℕ → Bool

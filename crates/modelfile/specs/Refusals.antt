@@ -11,7 +11,8 @@ use Rattle.tokens.specs.declared.said.Said.{Said}
 use Rattle.transitions.specs.Listed.{Associative}
 use Rattle.modelfile.specs.declared.faults.Fault.{Fault}
 use Rattle.modelfile.specs.declared.faults.Fault.the-variants.{TooLong, NoForm, NoValue, OutOfTurn, OverLimit, WrongNumber, SilentUsed, SaidBefore, TooMany, NotAssociative, SilentRing, WrongEnd}
-use Rattle.modelfile.specs.Accepted.{Room, Silently}
+use Rattle.acceptance.specs.Accepted.{Silently}
+use Rattle.modelfile.specs.Accepted.{Room}
 use Rattle.modelfile.specs.Entries.{entry-of}
 use Rattle.modelfile.specs.Faults.{number-of}
 use Rattle.modelfile.specs.Tests.{Sofar, nothing, turn-of, after, out-of-turn, over-limit, wrong-number, silent-used, said-before, too-many, start-of}

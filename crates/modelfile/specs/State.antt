@@ -24,7 +24,7 @@ use Rattle.modelfile.specs.declared.entries.Turn.{Turn}
 use Rattle.modelfile.specs.declared.entries.Turn.the-variants.{Refused, Starts, Reads}
 use Rattle.modelfile.specs.Accepted.{Room}
 use Rattle.modelfile.specs.declared.faults.Fault.{Fault}
-use Rattle.modelfile.specs.Computed.{member, fault-said, judged, faulty, fine, read-lines, ended, refused-at, reading, read}
+use Rattle.modelfile.specs.Computed.{fault-said, judged, faulty, fine, read-lines, ended, refused-at, reading, read}
 use Rattle.modelfile.specs.Entries.{entry-of}
 use Rattle.modelfile.specs.Promise.{room-is, tables-is}
 use Rattle.modelfile.specs.Tests.{after, said-before}
@@ -171,7 +171,3 @@ pub record Filled (bytes : List ℕ) (n : Counts) (ls : List JoinLine) (es : Lis
   pub past-lines : drop (n .lines) ls′ ≡ drop (n .lines) ls
   pub past-equations : drop (n .equations) es′ ≡ drop (n .equations) es
   pub past-terms : drop (n .terms) ts′ ≡ drop (n .terms) ts
-
--- The marks tell the members.
-abbrev pub Marks : List Bool → List ℕ → Type 0
-Marks marks A = (y : ℕ) → y < 256 → getD marks y false ≡ member y A

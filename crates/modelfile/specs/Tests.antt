@@ -6,6 +6,7 @@ use lib.Dec.{eqb, ltb, leb}
 use lib.ListN.{length}
 use Rattle.std.specs.declared.option.Option.{Option}
 use Rattle.std.specs.declared.option.Option.the-variants.{None, Some}
+pub use Rattle.acceptance.specs.Walks.{any}
 use Rattle.processes.specs.Sameness.{same-equation, same-term}
 use Rattle.processes.specs.declared.equations.Equation.{Equation}
 use Rattle.processes.specs.declared.terms.Term.{Term}
@@ -115,10 +116,6 @@ silent-used (Becomes x a y) = false
 silent-used (Ends x a) = false
 silent-used (Gives n k p q) = odd-set k q
 silent-used (Starts n) = false
-
-abbrev pub any : {A : Type 0} → (A → Bool) → List A → Bool
-any f [] = false
-any f (x ∷ xs) = f x || any f xs
 
 -- 8: an earlier line names the same pair, says the same of a variable, or gives the same term.
 abbrev pub said-before : Sofar → Entry → Bool

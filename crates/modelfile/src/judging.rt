@@ -18,7 +18,7 @@ use super::limits::uses_silent;
 use super::repeats::is_said_before;
 use super::repeats::is_too_many;
 use super::repeats::start_of;
-use super::rings::has_silent_ring;
+use acceptance::rings::has_no_ring;
 use actions::grouping::is_associative;
 use processes::equations::Equation;
 use processes::terms::Term;
@@ -56,7 +56,7 @@ fn start_fault(lines: &[JoinLine], equations: &[Equation]) -> Option<Fault>
     if !is_associative(lines) {
         return Some(Fault::NotAssociative);
     }
-    if has_silent_ring(equations) {
+    if !has_no_ring(equations) {
         return Some(Fault::SilentRing);
     }
     None

@@ -6,5 +6,4 @@ mod judging;
 mod limits;
 pub mod reading;
 mod repeats;
-mod rings;
 mod storing;
