@@ -55,6 +55,7 @@ module _ (E : List Equation) where
       keep : (b : Bool) (u : ℕ) → List·Memᴰ x (walkers F A) → List·Memᴰ x (cond b (u ∷ walkers F A) (walkers F A))
       keep true u w = List·Memᴰ·tail w
       keep false u w = w
+
       go : (l : Equation) → (List·Memᴰ (Becomes x 0 y) F → List·Memᴰ x (walkers F A)) → List·Memᴰ (Becomes x 0 y) (l ∷ F) → List·Memᴰ x (walkers (l ∷ F) A)
       go (Ends u b) ih (List·Memᴰ·head e) = let q : _≡_ {A = ℕ} 0 1 = cc in absurd (omega arith)
       go (Ends u b) ih (List·Memᴰ·tail m) = ih m
@@ -76,7 +77,6 @@ module _ (E : List Equation) where
 
   pub no-ring : silent-ring E ≡ false → (x : ℕ) → Silently E x x → ⊥
   no-ring h x w = both-ways _ h (mem-some (stay (suc (length E)) (targets E) (λ z v. reaches v) x w))
-
 
 module _ (E : List Equation) where
   abbrev Ring : Type 0
@@ -100,6 +100,7 @@ module _ (E : List Equation) where
               side : (x u : ℕ) → Silently E x u → (u ≡ a) ⊎ List·Memᴰ u A → (y : ℕ) × Silently E x y × List·Memᴰ y A
               side x u v (inl e) = (r .0, join (subst (Silently E x) e v) (r .1), k)
               side x u v (inr h) = (u, v, h)
+
               other : (x : ℕ) → (y : ℕ) × Silently E x y × List·Memᴰ y (a ∷ A) → (y : ℕ) × Silently E x y × List·Memᴰ y A
               other x q = side x (q .0) (q .1) (List·Memᴰ·cases-cons (q .2))
 
@@ -164,8 +165,10 @@ module _ (E : List Equation) where
     where
       Goal : Type 0
       Goal = (y : ℕ) × List·Memᴰ (Becomes x 0 y) (Becomes u a w ∷ F) × List·Memᴰ y A
+
       later : (List·Memᴰ x (walkers F A) → (y : ℕ) × List·Memᴰ (Becomes x 0 y) F × List·Memᴰ y A) → List·Memᴰ x (walkers F A) → Goal
       later ih m = let r = ih m in (r .0, List·Memᴰ·tail (r .1), r .2)
+
       go : (List·Memᴰ x (walkers F A) → (y : ℕ) × List·Memᴰ (Becomes x 0 y) F × List·Memᴰ y A) → (b : Bool) → eqb a 0 && member w A ≡ b → List·Memᴰ x (cond b (u ∷ walkers F A) (walkers F A)) → Goal
       go ih false g m = later ih m
       go ih true g m = side (List·Memᴰ·cases-cons m)

@@ -28,13 +28,13 @@ mark-one marks y z m w l h = go (cases-eq z y)
   where
     go : (z ≡ y) ⊎ (z ≡ y → ⊥) → (getD (set marks y true) z false || m) ≡ w
     go (inl e) =
-      let a : getD (set marks y true) z false ≡ true = ap (λ k. getD (set marks y true) k false) e ∙ getD-set-same marks y true false l in
-      let b : eqb z y ≡ true = eq-eqb z y e in
-      ap (λ t. t || m) a ∙ sym (ap (λ t. getD marks z false || (t || m)) b ∙ or-true (getD marks z false)) ∙ h
+        let a : getD (set marks y true) z false ≡ true = ap (λ k. getD (set marks y true) k false) e ∙ getD-set-same marks y true false l in
+        let b : eqb z y ≡ true = eq-eqb z y e in
+        ap (λ t. t || m) a ∙ sym (ap (λ t. getD marks z false || (t || m)) b ∙ or-true (getD marks z false)) ∙ h
     go (inr n) =
-      let a : getD (set marks y true) z false ≡ getD marks z false = getD-set-other marks y z true false n in
-      let b : eqb z y ≡ false = ne-eqb z y n in
-      ap (λ t. t || m) a ∙ sym (ap (λ t. getD marks z false || (t || m)) b) ∙ h
+        let a : getD (set marks y true) z false ≡ getD marks z false = getD-set-other marks y z true false n in
+        let b : eqb z y ≡ false = ne-eqb z y n in
+        ap (λ t. t || m) a ∙ sym (ap (λ t. getD marks z false || (t || m)) b) ∙ h
 
 module _ (xs : List Equation) (i : ℕ) (d : Equation) (l : i < length xs) where
   pub targets-on : (x a y : ℕ) → getD xs i d ≡ Becomes x a y → targets (drop i xs) ≡ y ∷ targets (drop (i + 1) xs)

@@ -2,11 +2,11 @@
 ghost use mathlib.Core.Path.{_≡_};
 ghost use Rattle.std.specs.Orderings.{Decides};
 ghost use Rattle.acceptance.specs.Accepted.{Accepted};
-use actions::acceptance::is_acceptable;
 use crate::fitting::equations_fit;
 use crate::fitting::is_earlier;
 use crate::fitting::terms_fit;
 use crate::rings::has_no_ring;
+use actions::acceptance::is_acceptable;
 use processes::equations::Equation;
 use processes::equations::EquationSame;
 use processes::terms::Term;

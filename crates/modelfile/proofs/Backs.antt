@@ -118,15 +118,15 @@ term-numbers v n (Hide p q) x y f b = let a = f .0 .1 in (omega arith, omega ari
 module _ (R : Room) where
   -- a line to which no test applies
   no-fault : (S : Sofar) (s : Said)
-    → out-of-turn (S .turn) (turn-of s) ≡ false → over-limit (S .variables) s ≡ false → wrong-number (length (S .terms)) s ≡ false → silent-used s ≡ false
-    → said-before S (entry-of s) ≡ false → too-many R (length (S .lines)) (length (S .equations)) (length (S .terms)) (entry-of s) ≡ false
-    → at-start (not-associative (S .lines)) (start-of (entry-of s)) ≡ false → at-start (silent-ring (S .equations)) (start-of (entry-of s)) ≡ false
-    → fault-said R S s ≡ None
+      → out-of-turn (S .turn) (turn-of s) ≡ false → over-limit (S .variables) s ≡ false → wrong-number (length (S .terms)) s ≡ false → silent-used s ≡ false
+      → said-before S (entry-of s) ≡ false → too-many R (length (S .lines)) (length (S .equations)) (length (S .terms)) (entry-of s) ≡ false
+      → at-start (not-associative (S .lines)) (start-of (entry-of s)) ≡ false → at-start (silent-ring (S .equations)) (start-of (entry-of s)) ≡ false
+      → fault-said R S s ≡ None
   no-fault S s a b c d e f g h = none-first (tests-of R S s) (a, (b, (c, (d, (e, (f, (g, (h, tt))))))))
 
   -- the line of an equation, told
   equation-told : (e : Equation) (S : Sofar) (ss : List Said) (n : ℕ) (S′ : Sofar) → S .variables ≤ 256 → 0 < S .turn → S .turn ≤ 3 → Equation-below (S .variables) e → Equation-fits e → any (λ d. same-equation d e) (S .equations) ≡ false → full 1024 (R .for-equations) (length (S .equations)) ≡ false
-    → Told R (record { turn = 3; variables = S .variables; lines = S .lines; equations = S .equations ++ (e ∷ []); terms = S .terms }) ss n S′ → Told R S (equation-says e ∷ ss) n S′
+      → Told R (record { turn = 3; variables = S .variables; lines = S .lines; equations = S .equations ++ (e ∷ []); terms = S .terms }) ss n S′ → Told R S (equation-says e ∷ ss) n S′
   equation-told (equation.Ends x a) S ss n S′ v l m f g k h next =
       told-next (no-fault S (equation-says (equation.Ends x a)) (turn-ok (S .turn) 2 l (omega arith) (omega arith)) (or-no (lt-leb (S .variables) x f) (le-ltb 63 a (omega arith))) refl refl k h refl refl) refl (omega arith, omega arith) next
   equation-told (equation.Becomes x a y) S ss n S′ v l m f g k h next =
@@ -166,11 +166,12 @@ module _ (R : Room) (t : Tables) (ok : Accepted R t) where
       let idx : suc (length (S .terms ++ (d ∷ []))) ≡ suc n = omega arith in
       let limit : over-limit (S .variables) (term-says n e) ≡ false = limit-no (S .variables) n e f (subst (λ v. Term-below v e) (sym ev) b) in
       let fresh : any (λ s. same-term s d) (S .terms) ≡ false = subst (λ z. any (λ s. same-term s z) (S .terms) ≡ false) (sym de) (fresh-at same-term (S .terms) e ts (t .terms) et (ok .tables .terms-once)) in
-      let free : full 256 (R .for-terms) (length (S .terms)) ≡ false = full-no 256 (R .for-terms) (S .terms) e ts (t .terms) et few (ok .terms-room) in
-      ( next .0
-      , told-next (no-fault R S (term-says n e) (turn-ok (S .turn) 3 l (omega arith) (omega arith)) limit (or-no (ap not (eq-eqb n n refl)) (earlier-no n e f)) (odd-no n e f) fresh free refl refl)
-          refl (term-numbers (t .variables) n e (ok .variables-few) (omega arith) f b) (subst (λ k. Told R S₁ (terms-before k ts []) (t .start) (next .0)) idx (next .1))
-      , next .2 )
+      let free : full 256 (R .for-terms) (length (S .terms)) ≡ false = full-no 256 (R .for-terms) (S .terms) e ts (t .terms) et few (ok .terms-room) in (
+        next .0,
+        told-next (no-fault R S (term-says n e) (turn-ok (S .turn) 3 l (omega arith) (omega arith)) limit (or-no (ap not (eq-eqb n n refl)) (earlier-no n e f)) (odd-no n e f) fresh free refl refl)
+            refl (term-numbers (t .variables) n e (ok .variables-few) (omega arith) f b) (subst (λ k. Told R S₁ (terms-before k ts []) (t .start) (next .0)) idx (next .1)),
+        next .2,
+      )
 
   equations-told : (es : List Equation) (S : Sofar) → S .variables ≡ t .variables → S .lines ≡ t .lines → S .equations ++ es ≡ t .equations → S .terms ≡ [] → 0 < S .turn → S .turn ≤ 3 → Told-all S (equations-before es (terms-before 1 (t .terms) []))
   equations-told [] S ev ep el et l m =
@@ -180,38 +181,44 @@ module _ (R : Room) (t : Tables) (ok : Accepted R t) where
   equations-told (x ∷ es) S ev ep el et l m =
       let S₁ : Sofar = record { turn = 3; variables = S .variables; lines = S .lines; equations = S .equations ++ (x ∷ []); terms = S .terms } in
       let next = equations-told es S₁ ev ep (append-assoc (S .equations) (x ∷ []) es ∙ el) et (omega arith) (omega arith) in
-      let below : Equation-below (t .variables) x = at-mid (λ _. Equation-below (t .variables)) (S .equations) x es (t .equations) _ el (ok .equations-below) in
-      ( next .0
-      , equation-told R x S _ (t .start) (next .0) (subst (λ v. v ≤ 256) (sym ev) (ok .variables-few)) l m (subst (λ v. Equation-below v x) (sym ev) below)
-          (at-mid (λ _. Equation-fits) (S .equations) x es (t .equations) _ el (ok .tables .equations-fit))
-          (fresh-at same-equation (S .equations) x es (t .equations) el (ok .tables .equations-once))
-          (full-no 1024 (R .for-equations) (S .equations) x es (t .equations) el (ok .tables .equations-few) (ok .equations-room))
-          (next .1)
-      , next .2 )
+      let below : Equation-below (t .variables) x = at-mid (λ _. Equation-below (t .variables)) (S .equations) x es (t .equations) _ el (ok .equations-below) in (
+        next .0,
+        equation-told R x S _ (t .start) (next .0) (subst (λ v. v ≤ 256) (sym ev) (ok .variables-few)) l m (subst (λ v. Equation-below v x) (sym ev) below)
+            (at-mid (λ _. Equation-fits) (S .equations) x es (t .equations) _ el (ok .tables .equations-fit))
+            (fresh-at same-equation (S .equations) x es (t .equations) el (ok .tables .equations-once))
+            (full-no 1024 (R .for-equations) (S .equations) x es (t .equations) el (ok .tables .equations-few) (ok .equations-room))
+            (next .1),
+        next .2,
+      )
 
   lines-told : (ls : List JoinLine) (S : Sofar) → S .variables ≡ t .variables → S .lines ++ ls ≡ t .lines → S .equations ≡ [] → S .terms ≡ [] → 0 < S .turn → S .turn ≤ 2 → Told-all S (lines-before ls (equations-before (t .equations) (terms-before 1 (t .terms) [])))
   lines-told [] S ev ep el et l m = equations-told (t .equations) S ev (sym (append-nil (S .lines)) ∙ ep) (ap (λ z. z ++ t .equations) el) et l (omega arith)
   lines-told (x ∷ ls) S ev ep el et l m =
       let f : Visible-line x = at-mid (λ _. Visible-line) (S .lines) x ls (t .lines) _ ep (ok .tables .lines-fit .visible) in
       let S₁ : Sofar = record { turn = 2; variables = S .variables; lines = S .lines ++ (x ∷ []); equations = S .equations; terms = S .terms } in
-      let next = lines-told ls S₁ ev (append-assoc (S .lines) (x ∷ []) ls ∙ ep) el et (omega arith) (omega arith) in
-      ( next .0
-      , told-next (no-fault R S (line-says x) (turn-ok (S .turn) 1 l (omega arith) (omega arith)) (limit f) refl (quiet f) fresh (full-no 32 (R .for-lines) (S .lines) x ls (t .lines) ep (ok .tables .lines-fit .few) (ok .lines-room)) refl refl)
-          refl (nums f) (next .1)
-      , next .2 )
+      let next = lines-told ls S₁ ev (append-assoc (S .lines) (x ∷ []) ls ∙ ep) el et (omega arith) (omega arith) in (
+        next .0,
+        told-next (no-fault R S (line-says x) (turn-ok (S .turn) 1 l (omega arith) (omega arith)) (limit f) refl (quiet f) fresh (full-no 32 (R .for-lines) (S .lines) x ls (t .lines) ep (ok .tables .lines-fit .few) (ok .lines-room)) refl refl)
+            refl (nums f) (next .1),
+        next .2,
+      )
     where
       here : line-at (t .lines) (length (S .lines)) ≡ x
       here = ap (λ z. line-at z (length (S .lines))) (sym ep) ∙ at-end (S .lines) x ls _
+
       fresh : any (λ k. names k (x .a) (x .b)) (S .lines) ≡ false
       fresh = none-at (λ (k : JoinLine). names k (x .a) (x .b)) (S .lines) _ (λ j b. not-true _ (λ h.
           let left : line-at (t .lines) j ≡ line-at (S .lines) j = ap (λ z. line-at z j) (sym ep) ∙ at-left (S .lines) (x ∷ ls) j _ b in
           ok .tables .lines-fit .once j (length (S .lines)) (x .a) (x .b) b (within (S .lines) x ls (t .lines) ep)
-            (subst (λ (k : JoinLine). Names k (x .a) (x .b)) (sym left) (named (line-at (S .lines) j) (x .a) (x .b) .0 h))
-            (subst (λ (k : JoinLine). Names k (x .a) (x .b)) (sym here) (inl (refl, refl)))))
+          (subst (λ (k : JoinLine). Names k (x .a) (x .b)) (sym left) (named (line-at (S .lines) j) (x .a) (x .b) .0 h))
+          (subst (λ (k : JoinLine). Names k (x .a) (x .b)) (sym here) (inl (refl, refl)))))
+
       limit : Visible-line x → over-limit (S .variables) (line-says x) ≡ false
       limit f = let a = f .0 .1 in let b = f .1 .1 in let c = f .2 .1 in or-no (or-no (le-ltb 63 (x .a) (omega arith)) (le-ltb 63 (x .b) (omega arith))) (le-ltb 63 (x .joint) (omega arith))
+
       quiet : Visible-line x → silent-used (line-says x) ≡ false
       quiet f = let a = f .0 .0 in let b = f .1 .0 in let c = f .2 .0 in or-no (or-no (ne-eqb (x .a) 0 (omega arith)) (ne-eqb (x .b) 0 (omega arith))) (ne-eqb (x .joint) 0 (omega arith))
+
       nums : Visible-line x → Numbers-fit (line-says x)
       nums f = let a = f .0 .1 in let b = f .1 .1 in let c = f .2 .1 in (omega arith, omega arith, omega arith)
 

@@ -169,33 +169,67 @@ module _ (R : Room) where
   first-turn (suc k) h = no-way h
 
   good-equation : (S : Sofar) (e : Equation) → Good S → out-of-turn (S .turn) 2 ≡ false → Equation-below (S .variables) e × Equation-fits e → any (λ d. same-equation d e) (S .equations) ≡ false → full 1024 (R .for-equations) (length (S .equations)) ≡ false
-    → Good (record { turn = 3; variables = S .variables; lines = S .lines; equations = S .equations ++ (e ∷ []); terms = S .terms })
+      → Good (record { turn = 3; variables = S .variables; lines = S .lines; equations = S .equations ++ (e ∷ []); terms = S .terms })
   good-equation S e g o w f m =
       let t = turn-is (S .turn) 2 (omega arith) o in
-      record { before-lines = λ l. absurd (omega arith); before-equations = λ l. absurd (omega arith); before-terms = λ _. g .before-terms (omega arith);
-        variables-few = g .variables-few; lines-few = g .lines-few; equations-few = full-false 1024 (R .for-equations) (S .equations) e m; terms-few = g .terms-few;
-        lines-visible = g .lines-visible; lines-once = g .lines-once;
+      record {
+        before-lines = λ l. absurd (omega arith);
+        before-equations = λ l. absurd (omega arith);
+        before-terms = λ _. g .before-terms (omega arith);
+        variables-few = g .variables-few;
+        lines-few = g .lines-few;
+        equations-few = full-false 1024 (R .for-equations) (S .equations) e m;
+        terms-few = g .terms-few;
+        lines-visible = g .lines-visible;
+        lines-once = g .lines-once;
         equations-fit = place-snoc (λ _. Equation-fits) (S .equations) e _ (g .equations-fit) (w .1);
         equations-below = place-snoc (λ _. Equation-below (S .variables)) (S .equations) e _ (g .equations-below) (w .0);
         equations-once = differ-snoc same-equation (S .equations) e (g .equations-once) f;
-        terms-fit = g .terms-fit; terms-below = g .terms-below; terms-once = g .terms-once }
+        terms-fit = g .terms-fit;
+        terms-below = g .terms-below;
+        terms-once = g .terms-once;
+      }
 
   pub good-after : (S : Sofar) (s : Said) → Good S → Passes R S s → start-of (entry-of s) ≡ None → Fields-fit s → Good (after S (entry-of s))
   good-after S (Variables v) g p n f =
       let z : S .turn ≡ 0 = first-turn (S .turn) (p .in-turn) in
-      record { before-lines = λ _. g .before-lines (omega arith); before-equations = λ _. g .before-equations (omega arith); before-terms = λ _. g .before-terms (omega arith);
-        variables-few = ltb-false 256 v (p .within-limit); lines-few = g .lines-few; equations-few = g .equations-few; terms-few = g .terms-few;
-        lines-visible = g .lines-visible; lines-once = g .lines-once; equations-fit = g .equations-fit;
-        equations-below = no-place (λ _. Equation-below v) (S .equations) _ (g .before-equations (omega arith)); equations-once = g .equations-once;
-        terms-fit = g .terms-fit; terms-below = no-place (λ _. Term-below v) (S .terms) _ (g .before-terms (omega arith)); terms-once = g .terms-once }
+      record {
+        before-lines = λ _. g .before-lines (omega arith);
+        before-equations = λ _. g .before-equations (omega arith);
+        before-terms = λ _. g .before-terms (omega arith);
+        variables-few = ltb-false 256 v (p .within-limit);
+        lines-few = g .lines-few;
+        equations-few = g .equations-few;
+        terms-few = g .terms-few;
+        lines-visible = g .lines-visible;
+        lines-once = g .lines-once;
+        equations-fit = g .equations-fit;
+        equations-below = no-place (λ _. Equation-below v) (S .equations) _ (g .before-equations (omega arith));
+        equations-once = g .equations-once;
+        terms-fit = g .terms-fit;
+        terms-below = no-place (λ _. Term-below v) (S .terms) _ (g .before-terms (omega arith));
+        terms-once = g .terms-once;
+      }
   good-after S (Joins a b r) g p n f =
       let t = turn-is (S .turn) 1 (omega arith) (p .in-turn) in
       let l : JoinLine = record { a = a; b = b; joint = r } in
-      record { before-lines = λ l. absurd (omega arith); before-equations = λ _. g .before-equations (omega arith); before-terms = λ _. g .before-terms (omega arith);
-        variables-few = g .variables-few; lines-few = full-false 32 (R .for-lines) (S .lines) l (p .not-many); equations-few = g .equations-few; terms-few = g .terms-few;
+      record {
+        before-lines = λ l. absurd (omega arith);
+        before-equations = λ _. g .before-equations (omega arith);
+        before-terms = λ _. g .before-terms (omega arith);
+        variables-few = g .variables-few;
+        lines-few = full-false 32 (R .for-lines) (S .lines) l (p .not-many);
+        equations-few = g .equations-few;
+        terms-few = g .terms-few;
         lines-visible = place-snoc (λ _. Visible-line) (S .lines) l _ (g .lines-visible) (line-visible (S .variables) a b r (p .within-limit) (p .all-visible));
         lines-once = once-snoc (S .lines) l (g .lines-once) (p .not-said);
-        equations-fit = g .equations-fit; equations-below = g .equations-below; equations-once = g .equations-once; terms-fit = g .terms-fit; terms-below = g .terms-below; terms-once = g .terms-once }
+        equations-fit = g .equations-fit;
+        equations-below = g .equations-below;
+        equations-once = g .equations-once;
+        terms-fit = g .terms-fit;
+        terms-below = g .terms-below;
+        terms-once = g .terms-once;
+      }
   good-after S (Becomes x a y) g p n f = good-equation S (equation.Becomes x a y) g (p .in-turn) (becomes-below (S .variables) x a y (p .within-limit)) (p .not-said) (p .not-many)
   good-after S (Ends x a) g p n f = good-equation S (equation.Ends x a) g (p .in-turn) (ends-below (S .variables) x a (p .within-limit)) (p .not-said) (p .not-many)
   good-after S (Gives m k i j) g p n f =
@@ -203,12 +237,23 @@ module _ (R : Room) where
       let u : m ≡ suc (length (S .terms)) = eqb-true m (suc (length (S .terms))) (not-false (eqb m (suc (length (S .terms)))) (w .0)) in
       let e : m ≡ length (S .terms) + 1 = omega arith in
       let t : Term = term-of k i j in
-      record { before-lines = λ l. absurd (omega arith); before-equations = λ l. absurd (omega arith); before-terms = λ l. absurd (omega arith);
-        variables-few = g .variables-few; lines-few = g .lines-few; equations-few = g .equations-few; terms-few = full-false 256 (R .for-terms) (S .terms) t (p .not-many);
-        lines-visible = g .lines-visible; lines-once = g .lines-once; equations-fit = g .equations-fit; equations-below = g .equations-below; equations-once = g .equations-once;
+      record {
+        before-lines = λ l. absurd (omega arith);
+        before-equations = λ l. absurd (omega arith);
+        before-terms = λ l. absurd (omega arith);
+        variables-few = g .variables-few;
+        lines-few = g .lines-few;
+        equations-few = g .equations-few;
+        terms-few = full-false 256 (R .for-terms) (S .terms) t (p .not-many);
+        lines-visible = g .lines-visible;
+        lines-once = g .lines-once;
+        equations-fit = g .equations-fit;
+        equations-below = g .equations-below;
+        equations-once = g .equations-once;
         terms-fit = place-snoc (λ k. Term-fits (k + 1)) (S .terms) t _ (g .terms-fit) (subst (λ n. Term-fits n t) e (term-fits (S .variables) m k i j (p .within-limit) (w .1) (p .all-visible)));
         terms-below = place-snoc (λ _. Term-below (S .variables)) (S .terms) t _ (g .terms-below) (term-below (S .variables) m k i j (p .within-limit) f);
-        terms-once = differ-snoc same-term (S .terms) t (g .terms-once) (p .not-said) }
+        terms-once = differ-snoc same-term (S .terms) t (g .terms-once) (p .not-said);
+      }
   good-after S (Starts m) g p n f = let z : _≡_ {A = ℕ} 0 1 = cc in absurd (omega arith)
 
   -- the lines said so far

@@ -68,10 +68,13 @@ module _ (ls0 : List JoinLine) (es0 : List Equation) (ts0 : List Term) (bytes : 
 
     pub at-end : (n : ℕ) (ls′ : List JoinLine) (es′ : List Equation) (ts′ : List Term) → length bytes ≤ 32768 → Begins (room-is ls es ts) text s n ls es ts ls′ es′ ts′ → length more ≤ 0
         → drop (s .lines) ls ≡ drop (s .lines) ls0 → drop (s .equations) es ≡ drop (s .equations) es0 → drop (s .terms) ts ≡ drop (s .terms) ts0
-        → Filled bytes (record { variables = s .variables; lines = s .lines; equations = s .equations; terms = s .terms; start = n }) ls0 es0 ts0 ls′ es′ ts′
-    at-end n ls′ es′ ts′ h b l dp dl dt = record {
+        → Counted s ls es ts → Filled bytes (record { variables = s .variables; lines = s .lines; equations = s .equations; terms = s .terms; start = n }) ls0 es0 ts0 ls′ es′ ts′
+    at-end n ls′ es′ ts′ h b l dp dl dt k = record {
       reads = short-enough h ∙ sym here ∙ b .reads line (raw-lines more) ∙ stops line (sofar-is s ls es ts) n more l
           ∙ ap (λ x. read (tables-is N x es ts)) (sym (b .lines-stay)) ∙ ap (λ x. read (tables-is N ls′ x ts)) (sym (b .equations-stay)) ∙ ap (λ x. read (tables-is N ls′ es′ x)) (sym (b .terms-stay));
+      lines-in = omega arith;
+      equations-in = omega arith;
+      terms-in = omega arith;
       past-lines = ap (drop (s .lines)) (b .lines-stay) ∙ dp;
       past-equations = ap (drop (s .equations)) (b .equations-stay) ∙ dl;
       past-terms = ap (drop (s .terms)) (b .terms-stay) ∙ dt;

@@ -64,10 +64,23 @@ module _ (R : Room) where
       record { accepted = w .accepted; said = sym (append-assoc (said-at R (S .turn) S) (s ∷ []) (ss ++ (Starts n ∷ []))) ∙ ap (λ z. z ++ (ss ++ (Starts n ∷ []))) (sym (said-after R S s g p k)) ∙ w .said }
 
   good-nothing : Good R nothing
-  good-nothing = record { before-lines = λ _. refl; before-equations = λ _. refl; before-terms = λ _. refl; variables-few = omega arith; lines-few = (omega arith, omega arith); equations-few = (omega arith, omega arith); terms-few = (omega arith, omega arith);
-      lines-visible = λ k l. absurd (omega arith); lines-once = λ j k a b l m _ _. omega arith;
-      equations-fit = λ k l. absurd (omega arith); equations-below = λ k l. absurd (omega arith); equations-once = λ j k d l m. absurd (omega arith);
-      terms-fit = λ k l. absurd (omega arith); terms-below = λ k l. absurd (omega arith); terms-once = λ j k d l m. absurd (omega arith) }
+  good-nothing = record {
+    before-lines = λ _. refl;
+    before-equations = λ _. refl;
+    before-terms = λ _. refl;
+    variables-few = omega arith;
+    lines-few = (omega arith, omega arith);
+    equations-few = (omega arith, omega arith);
+    terms-few = (omega arith, omega arith);
+    lines-visible = λ k l. absurd (omega arith);
+    lines-once = λ j k a b l m _ _. omega arith;
+    equations-fit = λ k l. absurd (omega arith);
+    equations-below = λ k l. absurd (omega arith);
+    equations-once = λ j k d l m. absurd (omega arith);
+    terms-fit = λ k l. absurd (omega arith);
+    terms-below = λ k l. absurd (omega arith);
+    terms-once = λ j k d l m. absurd (omega arith);
+  }
 
   written-end : (ss : List Said) (s : Said) → written ss ++ written-line s ≡ written (ss ++ (s ∷ []))
   written-end [] s = sym (append-nil (written-line s))

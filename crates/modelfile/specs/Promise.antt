@@ -38,6 +38,9 @@ module _ (bytes : List ℕ) (ls : List JoinLine) (es : List Equation) (ts : List
   pub record Is-model (n : Counts) : Type 0 where
     pub holds : Holds (room-is ls es ts) bytes (tables-is n ls′ es′ ts′)
     pub no-other : (t : Tables) → Holds (room-is ls es ts) bytes t → t ≡ tables-is n ls′ es′ ts′
+    pub lines-in : n .lines ≤ length ls
+    pub equations-in : n .equations ≤ length es
+    pub terms-in : n .terms ≤ length ts
     pub past-lines : drop (n .lines) ls′ ≡ drop (n .lines) ls
     pub past-equations : drop (n .equations) es′ ≡ drop (n .equations) es
     pub past-terms : drop (n .terms) ts′ ≡ drop (n .terms) ts

@@ -168,6 +168,9 @@ Turn-is R text s ls es ts ls′ es′ ts′ (Reads s′) = Onward R text s s′ 
 -- The tables are those of the file, and the entries past them are as they were.
 pub record Filled (bytes : List ℕ) (n : Counts) (ls : List JoinLine) (es : List Equation) (ts : List Term) (ls′ : List JoinLine) (es′ : List Equation) (ts′ : List Term) : Type 0 where
   pub reads : reading (room-is ls es ts) bytes ≡ read (tables-is n ls′ es′ ts′)
+  pub lines-in : n .lines ≤ length ls
+  pub equations-in : n .equations ≤ length es
+  pub terms-in : n .terms ≤ length ts
   pub past-lines : drop (n .lines) ls′ ≡ drop (n .lines) ls
   pub past-equations : drop (n .equations) es′ ≡ drop (n .equations) es
   pub past-terms : drop (n .terms) ts′ ≡ drop (n .terms) ts

@@ -47,7 +47,6 @@ last-digit xs a n h = over-one xs a (48 + n) ∙ ap (over xs a) (sym (decimal-di
 pub next-digit : (xs : List ℕ) (a n : ℕ) → 10 ≤ n → n < 2 ^ 64 → set (over xs a (decimal (n / 10))) (a + length (decimal (n / 10))) (48 + n % 10) ≡ over xs a (decimal n)
 next-digit xs a n h f = over-one _ _ _ ∙ over-more xs a (decimal (n / 10)) ((48 + n % 10) ∷ []) ∙ ap (over xs a) (sym (decimal-step n h f))
 
-
 pub over-front : (xs ys : List ℕ) → length ys ≤ length xs → over xs 0 ys ≡ ys ++ drop (length ys) xs
 unfolding over
 over-front [] [] l = refl

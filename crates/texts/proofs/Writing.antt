@@ -18,7 +18,8 @@ done-over xs o o′ a e e′ ys zs d p q =
     let f = d .ends in
     record {
       is = p ∙ ap₂ (λ w k. over w k zs) (d .is) (d .ends) ∙ over-more xs a ys zs;
-      ends = omega arith }
+      ends = omega arith;
+    }
 
 pub done-byte : (xs o : List ℕ) (a e e′ b : ℕ) (ys : List ℕ) → Done xs o a e ys → e′ ≡ e + 1 → Done xs (set o e b) a e′ (ys ++ (b ∷ []))
 done-byte xs o a e e′ b ys d q = done-over xs o (set o e b) a e e′ ys (b ∷ []) d (over-one o e b) q
@@ -43,4 +44,3 @@ line-long l x y z =
     let e = length-append (A ++ X) C in
     let f = length-append A X in
     omega arith
-

@@ -28,8 +28,9 @@ returns-then-left-eq0 c =
 
 pub loop-next-again : need.loop-next-again
 loop-next-again c =
-  let A = c .loop-next .inv .0 in
-  let e : c .loop-next .left ≡ suc (c .loop-next .left - 1) = omega arith in
-  ( walkers (c .args .equations .now) A
-  , c .walkers-of-next .ensures A (c .loop-next .inv .1) .0
-  , ap (λ n. some? (walk (c .args .equations .now) n (walkers (c .args .equations .now) A))) (sym e) ∙ c .loop-next .inv .2)
+    let A = c .loop-next .inv .0 in
+    let e : c .loop-next .left ≡ suc (c .loop-next .left - 1) = omega arith in (
+      walkers (c .args .equations .now) A,
+      c .walkers-of-next .ensures A (c .loop-next .inv .1) .0,
+      ap (λ n. some? (walk (c .args .equations .now) n (walkers (c .args .equations .now) A))) (sym e) ∙ c .loop-next .inv .2,
+    )

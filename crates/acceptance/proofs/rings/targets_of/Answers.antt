@@ -12,8 +12,9 @@ use Rattle.acceptance.proofs.rings.targets_of.Needs.{in-Becomes, in-Ends}
 
 pub loop-line-again : need.loop-line-again
 loop-line-again c = elim (c .match-line .came) [
-    in-Becomes w ↦ left-set (c .loop-line .marks) (c .match-line .marks) (w .in-Becomes .y) (targets (drop (c .loop-line .line-index) (c .args .equations .now))) (targets (drop (c .loop-line .line-index + 1) (c .args .equations .now))) (targets (c .args .equations .now)) (c .loop-line .inv .0) (omega arith) (w .marks-is) (targets-on (c .args .equations .now) (c .loop-line .line-index) (Ends 0 0) (c .loop-line-test .taken) (w .in-Becomes .-x) (w .in-Becomes .-a) (w .in-Becomes .y) (w .in-Becomes .is)) (c .loop-line .inv .1)
-  | in-Ends w ↦ left-kept (c .loop-line .marks) (c .match-line .marks) (targets (drop (c .loop-line .line-index) (c .args .equations .now))) (targets (drop (c .loop-line .line-index + 1) (c .args .equations .now))) (targets (c .args .equations .now)) (c .loop-line .inv .0) (w .marks-is) (targets-past (c .args .equations .now) (c .loop-line .line-index) (Ends 0 0) (c .loop-line-test .taken) (w .in-Ends .-x) (w .in-Ends .-a) (w .in-Ends .is)) (c .loop-line .inv .1) ]
+  | in-Becomes w ↦ left-set (c .loop-line .marks) (c .match-line .marks) (w .in-Becomes .y) (targets (drop (c .loop-line .line-index) (c .args .equations .now))) (targets (drop (c .loop-line .line-index + 1) (c .args .equations .now))) (targets (c .args .equations .now)) (c .loop-line .inv .0) (omega arith) (w .marks-is) (targets-on (c .args .equations .now) (c .loop-line .line-index) (Ends 0 0) (c .loop-line-test .taken) (w .in-Becomes .-x) (w .in-Becomes .-a) (w .in-Becomes .y) (w .in-Becomes .is)) (c .loop-line .inv .1)
+  | in-Ends w ↦ left-kept (c .loop-line .marks) (c .match-line .marks) (targets (drop (c .loop-line .line-index) (c .args .equations .now))) (targets (drop (c .loop-line .line-index + 1) (c .args .equations .now))) (targets (c .args .equations .now)) (c .loop-line .inv .0) (w .marks-is) (targets-past (c .args .equations .now) (c .loop-line .line-index) (Ends 0 0) (c .loop-line-test .taken) (w .in-Ends .-x) (w .in-Ends .-a) (w .in-Ends .is)) (c .loop-line .inv .1)
+]
 
 pub loop-line-holds : need.loop-line-holds
 loop-line-holds c = (refl, left-start 256 (targets (c .args .equations .now)))

@@ -29,6 +29,9 @@ returns-in-Ok c =
     record {
       holds = reads-sound R (c .args .bytes .now) (tables-is (c .in-Ok .n) (c .try-read .last .lines) (c .try-read .last .equations) (c .try-read .last .terms)) (f .reads);
       no-other = λ t h. only R (c .args .bytes .now) (tables-is (c .in-Ok .n) (c .try-read .last .lines) (c .try-read .last .equations) (c .try-read .last .terms)) t (f .reads) h;
+      lines-in = f .lines-in;
+      equations-in = f .equations-in;
+      terms-in = f .terms-in;
       past-lines = f .past-lines;
       past-equations = f .past-equations;
       past-terms = f .past-terms;

@@ -5,5 +5,6 @@ use Rattle.texts.proofs.lines.line_length.Needs as need
 
 pub returns : need.returns
 returns c = record {
-    long = omega (arith, line-long (c .args .letter) (c .args .x) (c .args .y) (c .args .z));
-    most = omega (arith, length-decimal-le 5 (c .args .x) (omega arith) (omega arith) (omega arith), length-decimal-le 5 (c .args .y) (omega arith) (omega arith) (omega arith), length-decimal-le 5 (c .args .z) (omega arith) (omega arith) (omega arith)) }
+  long = omega (arith, line-long (c .args .letter) (c .args .x) (c .args .y) (c .args .z));
+  most = omega (arith, length-decimal-le 5 (c .args .x) (omega arith) (omega arith) (omega arith), length-decimal-le 5 (c .args .y) (omega arith) (omega arith) (omega arith), length-decimal-le 5 (c .args .z) (omega arith) (omega arith) (omega arith));
+}

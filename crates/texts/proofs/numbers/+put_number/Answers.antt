@@ -23,4 +23,5 @@ add-result-2 t c = omega (arith, long-step (c .args .n) (c .if-n-lt10 .left) (c 
 pub returns : need.returns
 returns t c = record {
   ends = omega (arith, long-step (c .args .n) (c .if-n-lt10 .left) (c .fits .n .fits));
-  after = (cc (c .put-number-e .ensures .ends, c .put-number-e .ensures .after)) ∙ next-digit (c .args .out .now) (c .args .at) (c .args .n) (c .if-n-lt10 .left) (c .fits .n .fits) }
+  after = (cc (c .put-number-e .ensures .ends, c .put-number-e .ensures .after)) ∙ next-digit (c .args .out .now) (c .args .at) (c .args .n) (c .if-n-lt10 .left) (c .fits .n .fits);
+}
