@@ -1,9 +1,8 @@
 -- The test of associativity looks only at what two lines can join, and tells all.
 use mathlib.Core.Path.{_≡_, refl, sym, ap, _∙_, subst₃}
-use mathlib.Core.Bool.{true}
-use mathlib.Core.List.{List, [], _∷_}
-use mathlib.Core.Logic.{_⊎_, inl, inr, ∥∥₁-elim}
-use Prim.Native.Nat.{ℕ, suc, _<_, _≤_}
+use mathlib.Core.List.{List, []}
+use mathlib.Core.Logic.{inl, inr, ∥∥₁-elim}
+use Prim.Native.Nat.{ℕ, suc, _<_}
 use native.Mathlib.Nat.{ℕ-set}
 use native.Mathlib.Omega.{arith}
 use denote.Struct.Props.{props}

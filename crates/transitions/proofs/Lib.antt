@@ -10,5 +10,5 @@ pub mod Ruled
 pub mod Ported
 pub mod Masks
 pub mod Listing
-pub mod Repeats
+pub mod Fresh
 pub mod Grouping
