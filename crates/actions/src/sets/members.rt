@@ -17,7 +17,9 @@ impl ActionSet {
     pub fn new(mask: u64) -> Self
         ensures { λ r. ⌜ has r ≡ visible-of (of-mask mask) ⌝ }
     {
-        ActionSet { bits: cleared(mask) }
+        ActionSet {
+            bits: cleared(mask),
+        }
     }
 
     pub fn contains(&self, action: u8) -> bool

@@ -11,5 +11,5 @@ pub returns-else-is-acceptable : need.returns-else-is-acceptable
 returns-else-is-acceptable c =
     record {
       accepted = ∣ none-acceptable ∣₁;
-      joins = by-refused (c .args .lines .now) (not-from-decides (c .is-acceptable .result) (c .is-acceptable .ensures) (c .if-is-acceptable .left))
+      joins = by-refused (c .args .lines .now) (not-from-decides (c .is-acceptable .result) (c .is-acceptable .ensures) (c .if-is-acceptable .left));
     }
