@@ -18,5 +18,5 @@ wide-lawful w h =
       start-in = λ p. p;
       start-empty = λ e. absurd (omega arith);
       ends-in = λ s e. absurd (let z : _≡_ {A = ℕ} 0 1 = cc in omega arith);
-      step-in = λ s p x e. absurd (let z : _≡_ {A = ℕ} 0 1 = cc in omega arith)
+      step-in = λ s p x e. absurd (let z : _≡_ {A = ℕ} 0 1 = cc in omega arith);
     }

@@ -48,7 +48,11 @@ fn lines_that_join_nothing() -> Result<(), Fail> {
 fn fill(lines: &mut [JoinLine]) {
     let mut k: u8 = 0;
     for entry in lines.iter_mut() {
-        *entry = if k < 31 { line(2 * k + 1, 2 * k + 2, 63) } else { line(1, k - 28, 63) };
+        *entry = if k < 31 {
+            line(2 * k + 1, 2 * k + 2, 63)
+        } else {
+            line(1, k - 28, 63)
+        };
         k = k.saturating_add(1);
     }
 }

@@ -39,7 +39,11 @@ fn states_of_a_merge() -> Result<(), Fail> {
     check_eq(fits.states(), 4096).note("64 times 64 states merge")?;
     let passes = Merge::new(Counter::new(63, 1, 2), Counter::new(64, 4, 5), Ports::new());
     check_eq(passes.states(), 0).note("64 times 65 do not")?;
-    let over_empty = Merge::new(Counter::new(4096, 1, 2), Counter::new(1, 4, 5), Ports::new());
+    let over_empty = Merge::new(
+        Counter::new(4096, 1, 2),
+        Counter::new(1, 4, 5),
+        Ports::new(),
+    );
     check_eq(over_empty.states(), 0).note("over an empty model")
 }
 

@@ -10,7 +10,9 @@ impl Wide {
     pub fn new(places: usize) -> Self
         ensures { λ r. ⌜ r .places ≡ min places 4096 ⌝ }
     {
-        Wide { places: places.min(4096) }
+        Wide {
+            places: places.min(4096),
+        }
     }
 }
 
