@@ -29,9 +29,12 @@ larger L R = max (L .states) (R .states)
 abbrev pub short : Lts → Lts → Scratch → Bool
 short L R z = ltb (length (z .marks)) (larger L R) || ltb (length (z .queue)) (larger L R)
 
+abbrev pub too-short : Lts → Lts → Scratch → Option Fault
+too-short L R z = cond (short L R z) (Some Short) None
+
 -- Why a judgement is refused, if it is: a model is empty, or the scratch is too short; the first of the two that holds.
 abbrev pub refusal : Lts → Lts → Scratch → Option Fault
-refusal L R z = cond (eqb (L .states) 0 || eqb (R .states) 0) (Some Blank) (cond (short L R z) (Some Short) None)
+refusal L R z = cond (eqb (L .states) 0 || eqb (R .states) 0) (Some Blank) (too-short L R z)
 
 -- The verdict on the pairing, or the refusal.
 abbrev pub Says : Option Fault → Lts → Lts → Pairing → Result Verdict Fault → Type 0
