@@ -1,0 +1,3 @@
+// Sheets of pairs over lent bytes, and their calls.
+pub mod sheet;
+mod size;
