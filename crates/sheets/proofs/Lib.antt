@@ -4,3 +4,4 @@ pub mod Taking
 pub mod Sizing
 pub mod Refusals
 pub mod Opening
+pub mod Passing

@@ -10,7 +10,7 @@ use lib.ListN.{length, getD, set}
 use lib.Bits.{bitOr, or-shr, or-step}
 use lib.Dec.{eqb, ltb}
 use lib.Seq.{getD-set-same, getD-set-other}
-use Rattle.std.proofs.shelf.Bits.{pow-add, shl-shr, pow-below, mod-mul-add, div-mul-add, mod-below, div-add-mod', one-shl}
+use Rattle.std.proofs.shelf.Bits.{pow-add, shl-shr, pow-below, mod-mul-add, div-mul-add, mod-below, div-add-mod'}
 use Rattle.std.proofs.shelf.Tests.{cases-eq, cases-lt, eq-eqb}
 use Rattle.sheets.specs.Bits.{bit, paired, with-bit}
 use Rattle.sheets.specs.Calls.{adding}
@@ -100,7 +100,3 @@ module _ (rows columns : ℕ) (bytes : List ℕ) (s t : ℕ) (hs : s < rows) (ht
 
   pub put-pairs : paired rows columns after ≡ adding (paired rows columns bytes) s t
   put-pairs = fun-ext (λ x. fun-ext (λ y. put-at x y))
-
--- The byte as the code makes it.
-pub put-made : (bytes : List ℕ) (i : ℕ) → set bytes (i / 8) (bitOr (getD bytes (i / 8) 0) ((1 * 2 ^ (i % 8)) % 256)) ≡ with-bit bytes i
-put-made bytes i = ap (λ (v : ℕ). set bytes (i / 8) (bitOr (getD bytes (i / 8) 0) v)) (one-shl (i % 8) 8 (mod-below i 8 (omega arith)))

@@ -1,5 +1,7 @@
 // The calls that change one pair of a sheet.
 ghost use Rattle.sheets.specs.Calls.{Paired, Unpaired};
+use crate::bits::put_bit;
+use crate::bits::take_bit;
 use crate::sheet::Sheet;
 use crate::sheet::standing::SheetPairing;
 use pairings::faults::Fault;
@@ -22,7 +24,7 @@ impl<'a> Sheet<'a> {
             return Err(Fault::Stands);
         }
         let i = s * size.columns + t;
-        self.bytes[i / 8] |= 1u8 << (i % 8);
+        put_bit(self.bytes, i);
         Ok(())
     }
 
@@ -42,7 +44,7 @@ impl<'a> Sheet<'a> {
             return Err(Fault::Missing);
         }
         let i = s * size.columns + t;
-        self.bytes[i / 8] &= 255 - (1u8 << (i % 8));
+        take_bit(self.bytes, i);
         Ok(())
     }
 }

@@ -7,6 +7,7 @@ ghost use Rattle.judging.specs.Judged.{Judged, refusal};
 ghost use Rattle.sheets.specs.Calls.{in-range, removing};
 ghost use Rattle.sheets.specs.Sheets.{stood, in-force};
 ghost use mathlib.Core.Bool.{true};
+use crate::sheet::standing::next_in;
 use crate::sheet::standing::stands_in;
 use crate::size::Size;
 use judging::calls::judge;
@@ -43,6 +44,10 @@ impl Pairing for Lifted<'_> as LiftedPairing {
 
     fn stands(&self, s: usize, t: usize) -> bool {
         stands_in(self.bytes, self.size, s, t)
+    }
+
+    fn next_standing(&self, s: usize, from: usize, below: usize) -> Option<usize> {
+        next_in(self.bytes, self.size, s, from, below)
     }
 }
 

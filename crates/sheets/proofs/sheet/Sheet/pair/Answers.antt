@@ -1,19 +1,13 @@
 use borrow.Author.Needs.{needs}
-use mathlib.Core.Path.{sym, refl, ap, _∙_}
-use lib.ListN.{length-set}
+use mathlib.Core.Path.{sym, _∙_}
 use Rattle.sheets.specs.Bits.{with-bit}
 use Rattle.sheets.specs.Sheets.{standing}
-use Rattle.sheets.proofs.Putting.{put-made}
 use Rattle.sheets.proofs.Refusals.{pair-ok}
 use Rattle.sheets.proofs.Sizing.{there, put-stood, numbered}
 use Rattle.sheets.proofs.sheet.Sheet.pair.Needs as need
 
-pub index-self-i : need.index-self-i
-index-self-i c =
-    there (c .args .self .now .size) (c .args .self .now .bytes .now) (c .within-size .result .rows) (c .within-size .result .columns) (c .args .s) (c .args .t) (c .within-size .ensures .rows) (c .within-size .ensures .columns) (sym (c .if-not-has .ensures tt))
-
-pub index-self-i-2 : need.index-self-i-2
-index-self-i-2 c =
+pub put-bit-requires : need.put-bit-requires
+put-bit-requires c κs =
     there (c .args .self .now .size) (c .args .self .now .bytes .now) (c .within-size .result .rows) (c .within-size .result .columns) (c .args .s) (c .args .t) (c .within-size .ensures .rows) (c .within-size .ensures .columns) (sym (c .if-not-has .ensures tt))
 
 pub returns : need.returns
@@ -24,7 +18,7 @@ returns c =
     let en = c .within-size .ensures .rows in
     let em = c .within-size .ensures .columns in
     let has = sym (c .if-not-has .ensures tt) in
-    let made = put-made (v .bytes .now) _ in
+    let made = c .put-bit .ensures in
     record {
       says = pair-ok n m _ _ (standing v) _ _ en em (sym (c .if-is-blank .ensures tt)) has (sym (c .if-stands .ensures tt));
       pairs = put-stood (v .size) (v .bytes .now) n m _ _ en em has _ made;
