@@ -9,7 +9,7 @@ use transitions::lines::JoinLine;
 use transitions::lines::JoinLineSame;
 
 // What a and b join to: the joint of the first line that names them.
-pub(crate) fn joint_of(lines: &[JoinLine], a: u8, b: u8) -> Option<u8>
+pub fn joint_of(lines: &[JoinLine], a: u8, b: u8) -> Option<u8>
     ensures { λ r. ⌜ r ≡ listed-joins (now (lines .entry)) a b ⌝ }
 {
     match find_same(lines, &JoinLine { a, b, joint: 0 }) {

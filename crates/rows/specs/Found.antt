@@ -15,3 +15,7 @@ None-below same entries x n = (k : ℕ) → k < n → same (getD entries k x) x 
 abbrev pub Found : {T : Type 0} → (T → T → Bool) → List T → T → Option ℕ → Type 0
 Found same entries x (Some i) = (i < length entries) × (same (getD entries i x) x ≡ true) × None-below same entries x i
 Found same entries x None = None-below same entries x (length entries)
+
+-- No entry is the same as an earlier one. Past the end an entry reads as d.
+abbrev pub Differ : {T : Type 0} → (T → T → Bool) → List T → Type 0
+Differ {T} same entries = (j k : ℕ) (d : T) → j < k → k < length entries → same (getD entries j d) (getD entries k d) ≡ false

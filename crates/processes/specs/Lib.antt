@@ -1,0 +1,3 @@
+pub mod Rules
+pub mod Sameness
+pub mod Store
