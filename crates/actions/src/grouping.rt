@@ -1,5 +1,4 @@
 // Whether lines are associative. It is enough to look at what two lines can join.
-ghost use mathlib.Core.Path.{_≡_};
 ghost use Rattle.std.specs.Orderings.{Decides};
 ghost use Rattle.transitions.proofs.Grouping.{Regroups, Pair-regroups, Line-regroups};
 ghost use Rattle.transitions.specs.Listed.{Once, Associative};

@@ -1,9 +1,8 @@
--- The test of associativity looks only at what two lines can join, and tells all.
+-- The test of associativity looks only at what two lines can join, and tells all. Acceptable lines are a lawful communication.
 use mathlib.Core.Path.{_≡_, refl, sym, ap, _∙_, subst₃}
-use mathlib.Core.Bool.{true}
-use mathlib.Core.List.{List, [], _∷_}
-use mathlib.Core.Logic.{_⊎_, inl, inr, ∥∥₁-elim}
-use Prim.Native.Nat.{ℕ, suc, _<_, _≤_}
+use mathlib.Core.List.{List, []}
+use mathlib.Core.Logic.{inl, inr, ∥∥₁-elim}
+use Prim.Native.Nat.{ℕ, suc, _<_}
 use native.Mathlib.Nat.{ℕ-set}
 use native.Mathlib.Omega.{arith}
 use denote.Struct.Props.{props}
@@ -80,11 +79,11 @@ visible-names : (line : JoinLine) (a b c : ℕ) → Visible-line line → Names 
 visible-names line a b c v (inl (e, f)) g = ((omega arith, omega arith), (omega arith, omega arith), (omega arith, omega arith))
 visible-names line a b c v (inr (e, f)) g = ((omega arith, omega arith), (omega arith, omega arith), (omega arith, omega arith))
 
-pub listed-visible : (lines : List JoinLine) → Acceptable lines → (a b c : ℕ) → listed-joins lines a b ≡ Some c → Visible a × Visible b × Visible c
+listed-visible : (lines : List JoinLine) → Acceptable lines → (a b c : ℕ) → listed-joins lines a b ≡ Some c → Visible a × Visible b × Visible c
 listed-visible lines ok a b c e =
     let s = joined-said lines a b c e in visible-names (line-at lines (s .place)) a b c (ok .visible (s .place) (s .within)) (s .names) (s .joint)
 
-pub listed-associates : (lines : List JoinLine) → Acceptable lines → (a b c : ℕ) → after (λ d. listed-joins lines d c) (listed-joins lines a b) ≡ after (λ d. listed-joins lines a d) (listed-joins lines b c)
+listed-associates : (lines : List JoinLine) → Acceptable lines → (a b c : ℕ) → after (λ d. listed-joins lines d c) (listed-joins lines a b) ≡ after (λ d. listed-joins lines a d) (listed-joins lines b c)
 listed-associates lines ok a b c = same-some _ _ (λ r. (there r, back r))
   where
     there : (r : ℕ) → after (λ d. listed-joins lines d c) (listed-joins lines a b) ≡ Some r → after (λ d. listed-joins lines a d) (listed-joins lines b c) ≡ Some r
@@ -136,7 +135,7 @@ pub by-acceptable : (lines : List JoinLine) → Acceptable lines → By-lines li
 by-acceptable lines ok =
     record { accepted = λ _ a b c. (joined-said lines a b c, said-joined lines (ok .once) a b c); refused = λ not-ok. absurd (not-ok ok) }
 
-pub no-lines : (a b : ℕ) → listed-joins [] a b ≡ None
+no-lines : (a b : ℕ) → listed-joins [] a b ≡ None
 unfolding listed-joins
 no-lines a b = refl
 

@@ -13,5 +13,5 @@ pub mod Counted
 pub mod Cut
 pub mod Repeating
 pub mod Listing
-pub mod Repeats
+pub mod Fresh
 pub mod Grouping

@@ -1,14 +1,13 @@
 -- What lines say is what the first line that names a pair gives, where no pair is named twice.
-use mathlib.Core.Path.{_≡_, refl, sym, ap, _∙_}
-use mathlib.Core.Bool.{Bool, true, false, cond, _&&_, _||_}
+use mathlib.Core.Path.{_≡_, refl, ap, _∙_}
+use mathlib.Core.Bool.{Bool, true, false, cond}
 use mathlib.Core.List.{List, [], _∷_}
-use mathlib.Core.Logic.{_⊎_, inl, inr}
-use Prim.Native.Nat.{ℕ, zero, suc, _<_, _≤_}
+use mathlib.Core.Logic.{inl, inr}
+use Prim.Native.Nat.{ℕ, zero, suc, _<_}
 use native.Mathlib.Omega.{arith}
-use lib.Dec.{eqb}
 use lib.ListN.{length, getD}
 use Rattle.std.proofs.shelf.Tests.{cases-bool, cond-true, cond-false}
-use Rattle.std.proofs.shelf.Ways.{tells, decides-and, decides-or, decides-eqb, not-from-decides}
+use Rattle.std.proofs.shelf.Ways.{tells, decides-and, decides-or, decides-eqb}
 use Rattle.std.specs.Orderings.{Decides}
 use Rattle.std.specs.declared.option.Option.{Option}
 use Rattle.std.specs.declared.option.Option.the-variants.{None, Some}
@@ -24,7 +23,7 @@ named line a b =
     (decides-and _ _ (decides-eqb (line .a) a) (decides-eqb (line .b) b))
     (decides-and _ _ (decides-eqb (line .a) b) (decides-eqb (line .b) a))
 
-pub swap : (line : JoinLine) (a b : ℕ) → Names line a b → Names line b a
+swap : (line : JoinLine) (a b : ℕ) → Names line a b → Names line b a
 swap line a b (inl h) = inr h
 swap line a b (inr h) = inl h
 

@@ -38,7 +38,7 @@ Associative lines = (a b c r : ℕ) → Iff ((d : ℕ) × Said lines a b d × Sa
 abbrev pub Visible-line : JoinLine → Type 0
 Visible-line line = Visible (line .a) × Visible (line .b) × Visible (line .joint)
 
--- The lines that a communication may have.
+-- The lines that a communication may have: at most 32, of visible actions, no pair twice, and associative.
 pub record Acceptable (lines : List JoinLine) : Type 0 where
   pub few : length lines ≤ 32
   pub visible : (k : ℕ) → k < length lines → Visible-line (line-at lines k)
@@ -50,10 +50,11 @@ pub record By-lines (lines : List JoinLine) (join : Joins) : Type 0 where
   pub accepted : Acceptable lines → (a b c : ℕ) → Iff (join a b ≡ Some c) (Said lines a b c)
   pub refused : (Acceptable lines → ⊥) → (a b : ℕ) → join a b ≡ None
 
--- The same, computed: the joint of the first line that names the pair.
+-- The same, computed.
 abbrev pub names : JoinLine → ℕ → ℕ → Bool
 names line a b = (eqb (line .a) a && eqb (line .b) b) || (eqb (line .a) b && eqb (line .b) a)
 
+-- What a and b join to: the joint of the first line that names them.
 unfoldable pub listed-joins : List JoinLine → Joins
 listed-joins [] a b = None
 listed-joins (line ∷ lines) a b = cond (names line a b) (Some (line .joint)) (listed-joins lines a b)

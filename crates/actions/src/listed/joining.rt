@@ -1,26 +1,33 @@
 // The making of a communication given by lines, and its answers.
 ghost use denote.Ref.{now};
-ghost use mathlib.Core.Path.{_≡_};
 ghost use Rattle.actions.specs.Communications.{of-listed};
 ghost use Rattle.transitions.proofs.Grouping.{listed-lawful};
-ghost use Rattle.transitions.specs.Listed.{By-lines};
+ghost use Rattle.transitions.specs.Listed.{By-lines, Acceptable, listed-joins};
 use crate::acceptance::is_acceptable;
 use crate::communications::Communication;
 use crate::lines::joint_of;
 use crate::listed::Listed;
 use transitions::lines::JoinLine;
 
+// The lines if they are acceptable, else none of them.
+fn accepted_part<'a>(lines: &'a [JoinLine]) -> &'a [JoinLine]
+    ensures accepted { λ r. ⌜ ∥ Acceptable (now r) ∥₁ ⌝ }
+    ensures joins { λ r. ⌜ By-lines (now (lines .entry)) (listed-joins (now r)) ⌝ }
+{
+    if is_acceptable(lines) {
+        lines
+    } else {
+        &lines[0..0]
+    }
+}
+
 impl<'a> Listed<'a> {
     // Lines that are not acceptable join nothing.
     pub fn new(lines: &'a [JoinLine]) -> Listed<'a>
         ensures { λ r. ⌜ By-lines (now (lines .entry)) (of-listed r) ⌝ }
     {
-        if is_acceptable(lines) {
-            Listed { lines }
-        } else {
-            Listed {
-                lines: &lines[0..0],
-            }
+        Listed {
+            lines: accepted_part(lines),
         }
     }
 }

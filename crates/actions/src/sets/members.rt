@@ -1,8 +1,16 @@
 // The making of a set of actions, and the question whether an action is in it.
 ghost use mathlib.Core.Path.{_≡_};
+ghost use Prim.Native.Nat.{_-_, _%_};
 ghost use Rattle.actions.specs.Sets.{has};
 ghost use Rattle.transitions.specs.Communications.{of-mask, visible-of};
 use crate::sets::ActionSet;
+
+// The mask without bit 0.
+fn cleared(mask: u64) -> u64
+    ensures { λ r. ⌜ r ≡ mask - mask % 2 ⌝ }
+{
+    mask / 2 * 2
+}
 
 impl ActionSet {
     // The actions of the mask, bit a standing for action a. Bit 0 is dropped.
@@ -10,7 +18,7 @@ impl ActionSet {
         ensures { λ r. ⌜ has r ≡ visible-of (of-mask mask) ⌝ }
     {
         ActionSet {
-            bits: mask - mask % 2,
+            bits: cleared(mask),
         }
     }
 

@@ -1,17 +1,16 @@
 // The making of a counter, and its answers.
-ghost use mathlib.Core.Bool.{true};
 ghost use mathlib.Core.Path.{_≡_};
 ghost use Rattle.models.specs.Meanings.{of-counter};
 ghost use Rattle.transitions.proofs.Counted.{counting-lawful};
 ghost use Rattle.transitions.specs.Counting.{Countable, Counter-is};
-ghost use Rattle.transitions.specs.Rules.{Iff};
+ghost use Rattle.std.specs.Orderings.{Decides};
 use crate::counters::Counter;
 use crate::systems::TransitionSystem;
 use transitions::steps::Step;
 
 // A cap of at most 4,095, and two actions from 1 to 63.
 fn is_countable(cap: usize, take: u8, give: u8) -> bool
-    ensures { λ r. ⌜ Iff (r ≡ true) (Countable cap take give) ⌝ }
+    ensures { λ r. ⌜ Decides r (Countable cap take give) ⌝ }
 {
     cap <= 4095 && 0 < take && take < 64 && 0 < give && give < 64
 }

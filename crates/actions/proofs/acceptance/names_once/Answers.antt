@@ -2,7 +2,7 @@ use mathlib.Core.Path.{refl, sym}
 use native.Mathlib.Omega.{arith}
 use borrow.Author.Count.{below-more}
 use Rattle.std.proofs.shelf.Tests.{false≢true}
-use Rattle.transitions.proofs.Repeats.{Fresh, all-fresh, fresh, repeated}
+use Rattle.transitions.proofs.Fresh.{Fresh, all-fresh, fresh, repeated}
 use Rattle.actions.proofs.acceptance.names_once.Needs as need
 
 pub returns-then-is-some : need.returns-then-is-some

@@ -1,5 +1,5 @@
 use Prim.Native.Nat.{ℕ, _<_}
-use Rattle.transitions.proofs.Repeats.{Fresh}
+use Rattle.transitions.proofs.Fresh.{Fresh}
 use Rattle.actions.proofs.acceptance.names_once.Given as given
 
 abbrev pub Inv-loop-k : given.InvT-loop-k

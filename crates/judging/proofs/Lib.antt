@@ -1,0 +1,4 @@
+pub mod Queueing
+pub mod Answered
+pub mod Ordering
+pub mod Wiping

@@ -1,0 +1,4 @@
+pub mod Scratch
+pub mod Search
+pub mod Parts
+pub mod Judged

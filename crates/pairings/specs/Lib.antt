@@ -1,0 +1,3 @@
+pub mod Faults
+pub mod Next
+pub mod Besides

@@ -1,0 +1,4 @@
+pub mod Bits
+pub mod Sheets
+pub mod Calls
+pub mod Gaps

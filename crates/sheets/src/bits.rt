@@ -1,0 +1,21 @@
+// The bits of a row of bytes.
+ghost use mathlib.Core.Path.{_≡_};
+ghost use Prim.Native.Nat.{_/_, _<_};
+ghost use lib.ListN.{length};
+ghost use Rattle.sheets.specs.Bits.{with-bit, without-bit};
+
+// Puts bit i in.
+pub fn put_bit(bytes: &mut [u8], i: usize)
+    requires { ⌜ i / 8 < length (now bytes) ⌝ }
+    ensures { λ _. ⌜ now (bytes .exit) ≡ with-bit (now (bytes .entry)) i ⌝ }
+{
+    bytes[i / 8] |= 1u8 << (i % 8);
+}
+
+// Takes bit i out.
+pub fn take_bit(bytes: &mut [u8], i: usize)
+    requires { ⌜ i / 8 < length (now bytes) ⌝ }
+    ensures { λ _. ⌜ now (bytes .exit) ≡ without-bit (now (bytes .entry)) i ⌝ }
+{
+    bytes[i / 8] &= 255 - (1u8 << (i % 8));
+}

@@ -1,0 +1,68 @@
+// The oversold morning, told in numbered notes: a till that holds a booking's cap against each basket sells on where the house
+// rule stops; the comparer names the step; a till that holds the cap against the booking matches the rule.
+mod comparing;
+mod selling;
+mod tills;
+
+use crate::comparing::Comparison;
+use crate::comparing::compare;
+use crate::selling::describe;
+use crate::selling::look_after;
+use crate::selling::sell_out;
+use crate::tills::BASKETS;
+use crate::tills::BOOKING;
+use crate::tills::basket;
+use crate::tills::booking;
+use crate::tills::partners;
+use crate::tills::rule;
+use actions::listed::Listed;
+use actions::listed::joining::ListedCommunication;
+use actions::sets::ActionSet;
+use models::blocking::Blocked;
+use models::blocking::BlockedSystem;
+use models::counters::counting::CounterSystem;
+use models::merging::Merge;
+use models::merging::joint_steps::MergeSystem;
+use std::io;
+use transitions::lines::JoinLine;
+
+// The till that counts each basket by itself.
+fn oversold(rt: &LibcRuntime, no_lines: &[JoinLine]) -> io::Result<()> {
+    let rule = rule();
+    let till = Merge::new(rule, rule, Listed::new(no_lines));
+    describe(rt, &rule, &till)?;
+    let allowed = sell_out(rt, 3, "rule", &rule)?;
+    let sold = sell_out(rt, 4, "till", &till)?;
+    look_after(rt, 5, "rule", &rule, allowed)?;
+    look_after(rt, 6, "till", &till, allowed)?;
+    let extra = sold.saturating_sub(allowed);
+    println!(
+        rt,
+        "7. So the till sold {extra} passes more than the rule allows. A comparison finds that with no trial sale:"
+    )?;
+    compare(rt, 8, &rule, &till, Comparison { booked: false })
+}
+
+// The till whose baskets may sell only together with the booking.
+fn corrected(rt: &LibcRuntime, no_lines: &[JoinLine], lines: &[JoinLine]) -> io::Result<()> {
+    let baskets = Merge::new(basket(), basket(), Listed::new(no_lines));
+    let merged = Merge::new(baskets, booking(), Listed::new(lines));
+    let till = Blocked::new(merged, ActionSet::new(BASKETS | BOOKING));
+    println!(
+        rt,
+        "10. The corrected till holds the cap against the booking: a basket sells only together with the booking's own"
+    )?;
+    println!(
+        rt,
+        "    counter. It is the baskets merged with that counter, and what either does alone is blocked."
+    )?;
+    compare(rt, 11, &rule(), &till, Comparison { booked: true })
+}
+
+fn main(rt: LibcRuntime) -> io::Result<()> {
+    println!(rt, "The oversold morning: one booking, two baskets.")?;
+    let none: [JoinLine; 0] = [];
+    oversold(&rt, &none)?;
+    let lines = partners();
+    corrected(&rt, &none, &lines)
+}
