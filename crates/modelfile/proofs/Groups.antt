@@ -14,7 +14,7 @@ use Rattle.std.specs.declared.option.Option.the-variants.{None, Some}
 use Rattle.tokens.specs.Forms.{and-then}
 use Rattle.transitions.specs.Listed.{line-at, Names, Said, Once, Associative, listed-joins}
 use Rattle.transitions.specs.declared.lines.JoinLine.{JoinLine}
-use Rattle.transitions.proofs.Listing.{swap, joined-said, said-joined}
+use Rattle.transitions.proofs.Listing.{said-swap, joined-said, said-joined}
 use Rattle.modelfile.specs.Computed.{partners, same-answer, left-first, right-first, not-associative}
 use Rattle.modelfile.specs.Tests.{any}
 
@@ -71,7 +71,7 @@ module _ (ls : List JoinLine) (once : Once ls) where
   first-in {a} {b} s = named-partner ls (s .place) a b (s .within) (s .names)
 
   second-in : {a b c : ℕ} → Said ls a b c → List·Memᴰ b (partners ls)
-  second-in {a} {b} s = named-partner ls (s .place) b a (s .within) (swap (line-at ls (s .place)) a b (s .names))
+  second-in s = first-in (said-swap s)
 
   left-said : (a b c d r : ℕ) → Said ls a b d → Said ls d c r → left-first ls a b c ≡ Some r
   left-said a b c d r s t = then-eq (λ x. listed-joins ls x c) (said-joined ls once a b d s) ∙ said-joined ls once d c r t

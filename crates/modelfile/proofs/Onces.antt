@@ -9,7 +9,7 @@ use native.Mathlib.Omega.{arith}
 use lib.ListN.{length, getD, length-append}
 use Rattle.rows.specs.Found.{Differ}
 use Rattle.transitions.proofs.Listing.{named}
-use Rattle.transitions.proofs.Repeats.{all-fresh}
+use Rattle.transitions.proofs.Fresh.{all-fresh}
 use Rattle.transitions.specs.Listed.{line-at, Names, Once, names}
 use Rattle.transitions.specs.declared.lines.JoinLine.{JoinLine}
 use Rattle.modelfile.specs.Tests.{any}

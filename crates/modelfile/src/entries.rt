@@ -2,6 +2,7 @@
 ghost use mathlib.Core.Path.{_≡_};
 ghost use Rattle.modelfile.specs.Entries.{entry-of, term-of};
 ghost use Rattle.modelfile.specs.State.{Narrow, Narrow-term, Small};
+use super::faults::Fault;
 use processes::equations::Equation;
 use processes::terms::Term;
 use tokens::said::Said;
@@ -30,7 +31,7 @@ pub struct Sofar {
 // What one line leads to: a refusal, the start term, or a state to go on from.
 #[derive(Clone, Copy)]
 pub enum Turn {
-    Refused(super::faults::Fault),
+    Refused(Fault),
     Starts(u32),
     Reads(Sofar),
 }
