@@ -42,7 +42,7 @@ impl<'a> Sheet<'a> {
         if size.is_blank() {
             return Some(Fault::Blank);
         }
-        if left.states() != size.rows || right.states() != size.columns {
+        if left.states() != size.rows as usize || right.states() != size.columns as usize {
             return Some(Fault::Sizes);
         }
         None
