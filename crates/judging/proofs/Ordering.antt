@@ -1,13 +1,12 @@
 -- From what the judge found, part by part, to the verdict.
 use mathlib.Core.Path.{_≡_, refl, sym, ap, subst, _∙_}
 use mathlib.Core.Bool.{Bool, true, false}
-use mathlib.Core.List.{List, [], _∷_}
+use mathlib.Core.List.{[], _∷_}
 use mathlib.Core.Logic.{_⊎_, inl, inr, ⊎-elim}
-use Prim.Native.Nat.{ℕ, zero, suc, _+_, _<_, _≤_}
+use Prim.Native.Nat.{ℕ, _+_, _<_, _≤_}
 use native.Mathlib.Omega.{arith}
 use Rattle.std.proofs.shelf.Tests.{false≢true, cases-lt, cases-eq}
 use Rattle.std.specs.declared.option.Option.the-variants.{Some, None}
-use Rattle.transitions.specs.declared.steps.Step.{Step}
 use Rattle.transitions.specs.declared.verdicts.Side.the-variants.{Left, Right}
 use Rattle.transitions.specs.declared.verdicts.Counterexample.{Counterexample}
 use Rattle.transitions.specs.declared.verdicts.Counterexample.the-variants.{StartMissing, StepUnanswered, EndUnanswered, RootUnanswered}

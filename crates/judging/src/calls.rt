@@ -1,7 +1,6 @@
 // The public call.
 ghost use mathlib.Core.Path.{_≡_};
 ghost use Prim.Native.Nat.{max};
-ghost use lib.ListN.{length};
 ghost use Rattle.judging.specs.Judged.{Judged, refusal};
 ghost use Rattle.std.specs.declared.option.Option.the-variants.{None};
 use crate::verdict::judge_in;

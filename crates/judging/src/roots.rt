@@ -1,5 +1,4 @@
 // The root: each step of one start is answered by one step of the other start.
-ghost use mathlib.Core.Path.{_≡_};
 ghost use Rattle.judging.specs.Parts.{Tells, Lowest};
 ghost use Rattle.transitions.specs.Match.{Rooted};
 ghost use Rattle.transitions.specs.Verdict.{At-root};

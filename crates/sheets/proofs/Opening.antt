@@ -9,7 +9,7 @@ use Rattle.judging.specs.Judged.{Wiped}
 use Rattle.transitions.specs.Lts.{Lts}
 use Rattle.sheets.specs.declared.sheet.Sheet.{Sheet}
 use Rattle.sheets.specs.Bits.{needed}
-use Rattle.sheets.specs.Calls.{blank, opens, Opened}
+use Rattle.sheets.specs.Calls.{blank, Opened}
 use Rattle.sheets.specs.Sheets.{in-force, rows-of, columns-of}
 use Rattle.sheets.proofs.Sizing.{none-stand, fitting, opening}
 

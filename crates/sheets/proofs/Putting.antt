@@ -1,14 +1,14 @@
 -- A pair's bit is put into its byte, and no other pair changes.
 use mathlib.Core.Path.{_≡_, refl, ap, sym, fun-ext, _∙_}
 use mathlib.Core.List.{List}
-use mathlib.Core.Bool.{Bool, true, false, cond, _&&_, _||_}
-use mathlib.Core.Logic.{_⊎_, inl, inr, ⊎-elim, _≢_}
-use Prim.Native.Nat.{ℕ, zero, suc, _+_, _*_, _/_, _%_, _^_, _-_, _≤_, _<_, max}
+use mathlib.Core.Bool.{Bool, true, false, _&&_, _||_}
+use mathlib.Core.Logic.{_⊎_, ⊎-elim, _≢_}
+use Prim.Native.Nat.{ℕ, suc, _+_, _*_, _/_, _%_, _^_, _-_, _≤_, _<_, max}
 use native.Mathlib.Omega.{arith}
 use native.Mathlib.Nat.{pow-suc, div-eq-of-lt, one-mul, mul-mod-left, max-eq-left, max-eq-right, max-zero}
-use lib.ListN.{length, getD, set}
+use lib.ListN.{length, getD}
 use lib.Bits.{bitOr, or-shr, or-step}
-use lib.Dec.{eqb, ltb}
+use lib.Dec.{eqb}
 use lib.Seq.{getD-set-same, getD-set-other}
 use Rattle.std.proofs.shelf.Bits.{pow-add, shl-shr, pow-below, mod-mul-add, div-mul-add, mod-below, div-add-mod'}
 use Rattle.std.proofs.shelf.Tests.{cases-eq, cases-lt, eq-eqb}

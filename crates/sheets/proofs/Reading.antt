@@ -1,18 +1,17 @@
 -- The reading of a pair's bit.
-use mathlib.Core.Path.{_≡_, refl, sym, ap, _∙_}
-use mathlib.Core.Bool.{Bool, true, false, cond, _&&_}
+use mathlib.Core.Path.{_≡_, ap, _∙_}
+use mathlib.Core.Bool.{Bool, false, _&&_}
 use mathlib.Core.List.{List}
 use mathlib.Core.Logic.{⊎-elim}
 use Prim.Native.Nat.{ℕ, _+_, _*_, _/_, _%_, _^_, _-_, _<_, _≤_}
 use native.Mathlib.Nat.{zero-div}
 use native.Mathlib.Omega.{arith}
 use lib.Bits.{bitAnd}
-use lib.Dec.{ltb, leb, eqb}
-use lib.ListN.{length, getD}
+use lib.Dec.{ltb, eqb}
+use lib.ListN.{getD}
 use Rattle.std.proofs.shelf.Bits.{and-mask, mul-add-lt, div-below}
-use Rattle.std.proofs.shelf.Tests.{lt-ltb, le-ltb, eq-eqb, ne-eqb, cases-eq, cases-lt, leb-true}
+use Rattle.std.proofs.shelf.Tests.{lt-ltb, le-ltb, eq-eqb, ne-eqb, cases-eq}
 use Rattle.sheets.specs.Bits.{bit, needed, paired}
-use Rattle.sheets.specs.Calls.{no-pairs}
 
 pub bit-read : (bytes : List ℕ) (i : ℕ) → eqb (bitAnd (getD bytes (i / 8) 0 / 2 ^ (i % 8)) 1) 1 ≡ bit bytes i
 bit-read bytes i = ap (λ (x : ℕ). eqb x 1) (and-mask (getD bytes (i / 8) 0 / 2 ^ (i % 8)) 1)

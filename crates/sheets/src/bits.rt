@@ -1,8 +1,19 @@
 // The bits of a row of bytes.
 ghost use mathlib.Core.Path.{_≡_};
-ghost use Prim.Native.Nat.{_/_, _<_};
+ghost use Prim.Native.Nat.{_/_, _<_, _≤_};
 ghost use lib.ListN.{length};
+ghost use Rattle.judging.specs.Judged.{Wiped};
 ghost use Rattle.sheets.specs.Bits.{with-bit, without-bit};
+
+// Sets the first n bytes to 0.
+pub fn clear(bytes: &mut [u8], n: usize)
+    requires { ⌜ n ≤ length (now bytes) ⌝ }
+    ensures { λ _. ⌜ Wiped n (now (bytes .entry)) (now (bytes .exit)) ⌝ }
+{
+    for i in 0..n {
+        bytes[i] = 0;
+    }
+}
 
 // Puts bit i in.
 pub fn put_bit(bytes: &mut [u8], i: usize)

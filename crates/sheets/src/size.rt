@@ -1,12 +1,9 @@
-// The two sizes that a sheet keeps, each at most 4,096.
-ghost use Prim.Native.Nat.{_≤_};
+// The two sizes that a sheet keeps. A model has at most 4,096 states, so each fits 16 bits.
 
 #[derive(Clone, Copy)]
 pub struct Size {
-    pub rows: usize,
-    pub columns: usize,
-    ghost few_rows: { rows ≤ 4096 },
-    ghost few_columns: { columns ≤ 4096 },
+    pub rows: u16,
+    pub columns: u16,
 }
 
 pub mod measuring;

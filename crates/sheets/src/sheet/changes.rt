@@ -23,7 +23,7 @@ impl<'a> Sheet<'a> {
         if self.stands(s, t) {
             return Err(Fault::Stands);
         }
-        let i = s * size.columns + t;
+        let i = s * size.columns as usize + t;
         put_bit(self.bytes, i);
         Ok(())
     }
@@ -43,7 +43,7 @@ impl<'a> Sheet<'a> {
         if !self.stands(s, t) {
             return Err(Fault::Missing);
         }
-        let i = s * size.columns + t;
+        let i = s * size.columns as usize + t;
         take_bit(self.bytes, i);
         Ok(())
     }

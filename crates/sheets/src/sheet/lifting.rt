@@ -92,7 +92,7 @@ pub fn judge_without<L: TransitionSystem, R: TransitionSystem>(
     ensures judged { λ r. ⌜ Judged (refusal (L·TransitionSystem .meaning (now (left .entry))) (R·TransitionSystem .meaning (now (right .entry))) (record { marks = now (marks .entry); queue = now (queue .entry) })) (L·TransitionSystem .meaning (now (left .entry))) (R·TransitionSystem .meaning (now (right .entry))) (removing (stood size (now (bytes .entry))) s t) (record { marks = now (marks .entry); queue = now (queue .entry) }) (record { marks = now (marks .exit); queue = now (queue .exit) }) r ⌝ }
     ensures same { λ _. ⌜ now (bytes .exit) ≡ now (bytes .entry) ⌝ }
 {
-    let columns = size.within(bytes.len()).columns;
+    let columns = size.within(bytes.len()).columns as usize;
     let i = s * columns + t;
     let byte = bytes[i / 8] & (255 - (1u8 << (i % 8)));
     judge_with(left, right, bytes, size, i / 8, byte, marks, queue)

@@ -1,5 +1,6 @@
 // The opening of a sheet.
 ghost use Rattle.sheets.specs.Calls.{Opened};
+use crate::bits::clear;
 use crate::sheet::Sheet;
 use crate::size::Size;
 use models::systems::TransitionSystem;
@@ -15,8 +16,8 @@ impl<'a> Sheet<'a> {
         ensures { λ r. ⌜ Opened (L·TransitionSystem .meaning (now (left .entry))) (R·TransitionSystem .meaning (now (right .entry))) (bytes .entry) r ⌝ }
     {
         let size = Size {
-            rows: left.states(),
-            columns: right.states(),
+            rows: left.states() as u16,
+            columns: right.states() as u16,
         };
         let needed = size.needed();
         if size.is_blank() || needed > bytes.len() {
@@ -28,9 +29,7 @@ impl<'a> Sheet<'a> {
                 },
             };
         }
-        for i in 0..needed {
-            bytes[i] = 0;
-        }
+        clear(bytes, needed);
         Sheet { bytes, size }
     }
 }

@@ -17,7 +17,7 @@ pub fn stands_in(bytes: &[u8], size: Size, s: usize, t: usize) -> bool
     if !size.has(s, t) {
         return false;
     }
-    let i = s * size.columns + t;
+    let i = s * size.columns as usize + t;
     (bytes[i / 8] >> (i % 8)) & 1 == 1
 }
 
@@ -38,13 +38,13 @@ pub fn next_in(bytes: &[u8], size: Size, s: usize, from: usize, below: usize) ->
     ensures { λ r. ⌜ Next (stood size (now (bytes .entry)) s) from below r ⌝ }
 {
     let fitted = size.within(bytes.len());
-    if s >= fitted.rows {
+    if s >= fitted.rows as usize {
         return None;
     }
-    let end = below.min(fitted.columns);
+    let end = below.min(fitted.columns as usize);
     let mut t = from;
     while t < end {
-        let passed = gap(bytes, s * fitted.columns + t);
+        let passed = gap(bytes, s * fitted.columns as usize + t);
         if passed == 0 {
             return Some(t);
         }
@@ -58,14 +58,14 @@ impl<'a> Sheet<'a> {
     pub fn rows(&self) -> usize
         ensures { λ r. ⌜ r ≡ rows-of (now (self .entry)) ⌝ }
     {
-        self.size.within(self.bytes.len()).rows
+        self.size.within(self.bytes.len()).rows as usize
     }
 
     // The right size, 0 where the sheet is blank.
     pub fn columns(&self) -> usize
         ensures { λ r. ⌜ r ≡ columns-of (now (self .entry)) ⌝ }
     {
-        self.size.within(self.bytes.len()).columns
+        self.size.within(self.bytes.len()).columns as usize
     }
 }
 

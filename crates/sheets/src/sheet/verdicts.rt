@@ -1,6 +1,5 @@
 // The judgements of a sheet.
 ghost use mathlib.Core.Path.{_≡_};
-ghost use mathlib.Core.Bool.{cond};
 ghost use Rattle.judging.specs.Judged.{Judged, too-short};
 ghost use Rattle.sheets.specs.Calls.{unfit, unpaired, judge-refusal, Judged-without};
 ghost use Rattle.sheets.specs.Sheets.{standing as pairs, rows-of, columns-of};
@@ -42,7 +41,7 @@ impl<'a> Sheet<'a> {
         if size.is_blank() {
             return Some(Fault::Blank);
         }
-        if left.states() != size.rows || right.states() != size.columns {
+        if left.states() != size.rows as usize || right.states() != size.columns as usize {
             return Some(Fault::Sizes);
         }
         None

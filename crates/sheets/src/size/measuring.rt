@@ -10,7 +10,7 @@ impl Size {
     pub fn needed(self) -> usize
         ensures { λ r. ⌜ r ≡ needed (self .rows) (self .columns) ⌝ }
     {
-        (self.rows * self.columns + 7) / 8
+        (self.rows as usize * self.columns as usize + 7) / 8
     }
 
     // The sizes where so many bytes suffice, else 0 by 0.
@@ -37,6 +37,6 @@ impl Size {
     pub fn has(self, s: usize, t: usize) -> bool
         ensures { λ r. ⌜ r ≡ in-range (self .rows) (self .columns) s t ⌝ }
     {
-        s < self.rows && t < self.columns
+        s < self.rows as usize && t < self.columns as usize
     }
 }

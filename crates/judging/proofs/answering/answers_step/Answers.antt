@@ -1,4 +1,4 @@
-use mathlib.Core.Path.{sym, _∙_}
+use mathlib.Core.Path.{sym}
 use Rattle.judging.proofs.Answered.{answered-stay, answered-move, answered-none}
 use Rattle.judging.proofs.answering.answers_step.Needs as need
 

@@ -1,4 +1,3 @@
-use mathlib.Core.Path.{_≡_}
 use native.Mathlib.Omega.{arith}
 use Rattle.judging.proofs.Ordering.{row-passed, row-more, row-broken}
 use Rattle.judging.proofs.pairs.judge_row.Needs as need

@@ -1,4 +1,4 @@
-use Prim.Native.Nat.{_-_, _≤_}
+use Prim.Native.Nat.{_-_}
 use Rattle.judging.specs.Scratch.{Clean}
 use Rattle.judging.proofs.Ordering.{Row-upto}
 use Rattle.judging.proofs.pairs.judge_row.Given as given
