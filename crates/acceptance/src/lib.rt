@@ -1,4 +1,4 @@
 // Whether tables are such that a model file may hold them.
 pub mod accepting;
 mod fitting;
-mod rings;
+pub mod rings;

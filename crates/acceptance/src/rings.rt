@@ -50,7 +50,7 @@ fn walkers_of(equations: &[Equation], marks: [bool; 256]) -> Walkers
 }
 
 // There is a ring if some silent walk is longer than the lines are many.
-pub(crate) fn has_no_ring(equations: &[Equation]) -> bool
+pub fn has_no_ring(equations: &[Equation]) -> bool
     ensures { λ r. ⌜ Decides r (No-ring (now (equations .entry))) ⌝ }
 {
     let mut marks = targets_of(equations);

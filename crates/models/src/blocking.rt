@@ -48,6 +48,10 @@ pub impl<M: TransitionSystem> TransitionSystem for Blocked<M> as BlockedSystem {
 
     fn step(&self, state: usize, place: usize) -> Option<Step> {
         let step = self.model.step(state, place)?;
-        if self.set.contains(step.action) { None } else { Some(step) }
+        if self.set.contains(step.action) {
+            None
+        } else {
+            Some(step)
+        }
     }
 }

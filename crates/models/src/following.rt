@@ -25,7 +25,10 @@ pub fn first_step<M: TransitionSystem>(model: &M, action: u8, state: usize) -> O
     for place in 0..model.width() {
         if let Some(step) = model.step(state, place) {
             if step.action == action {
-                return Some(Placed { place, target: step.target as usize });
+                return Some(Placed {
+                    place,
+                    target: step.target as usize,
+                });
             }
         }
     }

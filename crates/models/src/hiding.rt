@@ -48,7 +48,14 @@ pub impl<M: TransitionSystem> TransitionSystem for Hidden<M> as HiddenSystem {
 
     fn step(&self, state: usize, place: usize) -> Option<Step> {
         let step = self.model.step(state, place)?;
-        let action = if self.set.contains(step.action) { 0 } else { step.action };
-        Some(Step { action, target: step.target })
+        let action = if self.set.contains(step.action) {
+            0
+        } else {
+            step.action
+        };
+        Some(Step {
+            action,
+            target: step.target,
+        })
     }
 }

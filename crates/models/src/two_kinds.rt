@@ -9,7 +9,10 @@ pub enum Either<A, B> {
     Second(B),
 }
 
-pub impl<A: TransitionSystem, B: TransitionSystem> TransitionSystem for Either<A, B> as EitherSystem {
+pub impl<A: TransitionSystem, B: TransitionSystem> TransitionSystem for Either<
+    A,
+    B,
+> as EitherSystem {
     ghost meaning = { of-either (A·TransitionSystem .meaning) (B·TransitionSystem .meaning) };
 
     ghost lawful = { either-lawful (A·TransitionSystem .lawful) (B·TransitionSystem .lawful) };

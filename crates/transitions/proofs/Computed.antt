@@ -62,15 +62,15 @@ test b k = cond b None (Some k)
 abbrev pub broken-in-pair : Lts → Lts → Pairing → ℕ → ℕ → Option Counterexample
 broken-in-pair L R B s t =
     or-else (first (L .width) (λ p. test (not (B s t) || place-ok R B s t (L .step s p)) (StepUnanswered s t Left p)))
-      (or-else (first (R .width) (λ p. test (not (B s t) || place-ok L (flip B) t s (R .step t p)) (StepUnanswered s t Right p)))
-        (or-else (test (not (B s t) || end-ok L R B s t) (EndUnanswered s t Left)) (test (not (B s t) || end-ok R L (flip B) t s) (EndUnanswered s t Right))))
+    (or-else (first (R .width) (λ p. test (not (B s t) || place-ok L (flip B) t s (R .step t p)) (StepUnanswered s t Right p)))
+    (or-else (test (not (B s t) || end-ok L R B s t) (EndUnanswered s t Left)) (test (not (B s t) || end-ok R L (flip B) t s) (EndUnanswered s t Right))))
 
 abbrev pub first-broken : Lts → Lts → Pairing → Option Counterexample
 first-broken L R B =
     or-else (test (B (L .start) (R .start)) (StartMissing (L .start) (R .start)))
-      (or-else (first (L .states) (λ s. first (R .states) (λ t. broken-in-pair L R B s t)))
-        (or-else (first (L .width) (λ p. test (root-ok R B (L .step (L .start) p)) (RootUnanswered (L .start) (R .start) Left p)))
-          (first (R .width) (λ p. test (root-ok L (flip B) (R .step (R .start) p)) (RootUnanswered (L .start) (R .start) Right p)))))
+    (or-else (first (L .states) (λ s. first (R .states) (λ t. broken-in-pair L R B s t)))
+    (or-else (first (L .width) (λ p. test (root-ok R B (L .step (L .start) p)) (RootUnanswered (L .start) (R .start) Left p)))
+    (first (R .width) (λ p. test (root-ok L (flip B) (R .step (R .start) p)) (RootUnanswered (L .start) (R .start) Right p)))))
 
 abbrev pub verdict-of : Option Counterexample → Verdict
 verdict-of None = Matches

@@ -22,12 +22,12 @@ module _ {n take give : ℕ} (few : n ≤ 4096) (take-fits : take < 64) (give-fi
         start-in = λ h. h;
         start-empty = λ h. refl;
         ends-in = λ s h. grind (arith, tells);
-        step-in = λ s p x h. (grind (arith, tells), grind (arith, tells), grind (arith, tells), grind (arith, tells))
+        step-in = λ s p x h. (grind (arith, tells), grind (arith, tells), grind (arith, tells), grind (arith, tells));
       }
 
 -- what a step is, by its place
 by-place : (n take give k p : ℕ) (x : Step) → counting-step n take give k p ≡ Some x
-  → ((p ≡ 0) × (k + 1 < n) × (x .action ≡ take) × (x .target ≡ k + 1)) ⊎ ((p ≡ 1) × (0 < k) × (k < n) × (x .action ≡ give) × (x .target ≡ k - 1))
+    → ((p ≡ 0) × (k + 1 < n) × (x .action ≡ take) × (x .target ≡ k + 1)) ⊎ ((p ≡ 1) × (0 < k) × (k < n) × (x .action ≡ give) × (x .target ≡ k - 1))
 by-place n take give k p x h = grind (arith, tells)
 
 step-is : (x : Step) (a t : ℕ) → x .action ≡ a → x .target ≡ t → record { action = a; target = t } ≡ x
@@ -36,13 +36,13 @@ step-is x a t e f = ap₂ (λ (b u : ℕ). record { action = b; target = u }) (s
 module _ (cap take give : ℕ) where
   there : (k p : ℕ) (x : Step) → counting-step (cap + 1) take give k p ≡ Some x → Counts cap take give k p x
   there k p x h =
-      elim (by-place (cap + 1) take give k p x h)
-        [ inl w ↦ subst₃ (λ i q y. Counts cap take give i q y) {x = k} refl (sym (w .0)) (step-is x take (k + 1) (w .2) (w .3)) (takes (let l = w .1 in omega arith))
+      elim (by-place (cap + 1) take give k p x h) [
+        | inl w ↦ subst₃ (λ i q y. Counts cap take give i q y) {x = k} refl (sym (w .0)) (step-is x take (k + 1) (w .2) (w .3)) (takes (let l = w .1 in omega arith))
         | inr w ↦
-          let e = w .1 in
-          let f = w .2 in
-          subst₃ (λ i q y. Counts cap take give i q y) {x = k - 1 + 1} (omega arith) (sym (w .0)) (step-is x give (k - 1) (w .3) (w .4)) (gives {k = k - 1} (omega arith))
-        ]
+            let e = w .1 in
+            let f = w .2 in
+            subst₃ (λ i q y. Counts cap take give i q y) {x = k - 1 + 1} (omega arith) (sym (w .0)) (step-is x give (k - 1) (w .3) (w .4)) (gives {k = k - 1} (omega arith))
+      ]
 
   back : {k p : ℕ} {x : Step} → Counts cap take give k p x → counting-step (cap + 1) take give k p ≡ Some x
   back (takes h) = grind (arith, tells)
@@ -55,7 +55,7 @@ module _ (cap take give : ℕ) where
         start = refl;
         width = grind (arith, tells);
         ends = λ k. (λ h. grind (arith, tells), λ h. grind (arith, tells));
-        steps = λ k p x. (there k p x, back)
+        steps = λ k p x. (there k p x, back);
       }
 
   pub counter-made : Countable cap take give → Counter-is cap take give (counting (cap + 1) take give)

@@ -53,10 +53,10 @@ module _ (L R : Lts) (lawL : Lawful L) (lawR : Lawful R) (B : Pairing) (side : S
   follow {s} done t hs ht h = record { actions = []; last = t; run = done; same = refl; stands = h; in-left = hs; in-right = ht }
   follow {s} {s′} (then {m} {a} {acts} (p, e) r) t hs ht h =
       let hm : m < L .states = lawL .step-in s p _ e .3 in
-      elim (side .step s t hs ht h a m (p, e))
-        [ inl w ↦ stays (w .0) (follow r t hm ht (w .1))
+      elim (side .step s t hs ht h a m (p, e)) [
+        | inl w ↦ stays (w .0) (follow r t hm ht (w .1))
         | inr w ↦ longer (w .leads) (w .steps) (follow r (w .target) hm (lawR .step-in (w .middle) (w .steps .0) _ (w .steps .1) .3) (w .stands))
-        ]
+      ]
 
 -- The end of the last state.
 ended : (R : Lts) (B : Pairing) (s t : ℕ) → Ended R B s t → May-end R t
@@ -72,7 +72,7 @@ followed L R lawL lawR hL hR B h left right acts s r =
       same = f .same;
       stands = f .stands;
       end-left = λ e. ended R B s (f .last) (left .end s (f .last) (f .in-left) (f .in-right) (f .stands) e);
-      end-right = λ e. ended L (flip B) (f .last) s (right .end (f .last) s (f .in-right) (f .in-left) (f .stands) e)
+      end-right = λ e. ended L (flip B) (f .last) s (right .end (f .last) s (f .in-right) (f .in-left) (f .stands) e);
     }
 
 pub runs-followed : Runs-followed

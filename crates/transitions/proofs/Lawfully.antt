@@ -30,24 +30,24 @@ relabel-lawful f small L law =
       start-empty = law .start-empty;
       ends-in = law .ends-in;
       step-in = λ s p x e.
-        let w = back f (L .step s p) (x .action) (x .target) e in
-        let k = law .step-in s p _ (w .1) in
-        (k .0, k .1, small (w .0) (x .action) (k .2) (w .2), k .3)
+          let w = back f (L .step s p) (x .action) (x .target) e in
+          let k = law .step-in s p _ (w .1) in
+          (k .0, k .1, small (w .0) (x .action) (k .2) (w .2), k .3);
     }
 
 dropped-small : (set : Actions) (a b : ℕ) → a < 64 → dropping set a ≡ Some b → b < 64
 dropped-small set a b h e =
-    elim (cases-bool (set a))
-      [ inl q ↦ absurd (let k : _≡_ {A = Option ℕ} None (Some b) = rw q at e in let z : _≡_ {A = ℕ} 0 1 = cc in omega arith)
+    elim (cases-bool (set a)) [
+      | inl q ↦ absurd (let k : _≡_ {A = Option ℕ} None (Some b) = rw q at e in let z : _≡_ {A = ℕ} 0 1 = cc in omega arith)
       | inr q ↦ let k : Some a ≡ Some b = rw q at e in let z : a ≡ b = cc in omega arith
-      ]
+    ]
 
 silenced-small : (set : Actions) (a b : ℕ) → a < 64 → silencing set a ≡ Some b → b < 64
 silenced-small set a b h e =
-    elim (cases-bool (set a))
-      [ inl q ↦ let k : Some 0 ≡ Some b = rw q at e in let z : 0 ≡ b = cc in omega arith
+    elim (cases-bool (set a)) [
+      | inl q ↦ let k : Some 0 ≡ Some b = rw q at e in let z : 0 ≡ b = cc in omega arith
       | inr q ↦ let k : Some a ≡ Some b = rw q at e in let z : a ≡ b = cc in omega arith
-      ]
+    ]
 
 pub empty-lawful : Lawful empty
 empty-lawful =
@@ -62,23 +62,23 @@ module _ (join : Joins) (laws : Communication join) (L U : Lts) (lawL : Lawful L
   -- where a step stands, its place is below the width and its state below the count
   in-range : (x p : ℕ) (y : Step) → joined join L U .step x p ≡ Some y → (x < L .states * U .states) × (p < joined join L U .width)
   in-range x p y e =
-      elim (cases-bool (ltb x (L .states * U .states)))
-        [ inl h ↦ (ltb-true _ _ h, place-in (x / U .states) (x % U .states) (rw h at e))
+      elim (cases-bool (ltb x (L .states * U .states))) [
+        | inl h ↦ (ltb-true _ _ h, place-in (x / U .states) (x % U .states) (rw h at e))
         | inr h ↦ absurd (none-some y (rw h at e))
-        ]
+      ]
     where
       place-in : (s u : ℕ) → merged join L U s u p ≡ Some y → p < L .width + U .width + L .width * U .width
       place-in s u k =
-          elim (cases-bool (ltb p (L .width)))
-            [ inl a ↦ omega (arith, ltb-true p (L .width) a)
+          elim (cases-bool (ltb p (L .width))) [
+            | inl a ↦ omega (arith, ltb-true p (L .width) a)
             | inr a ↦
-              elim (cases-bool (ltb p (L .width + U .width)))
-                [ inl b ↦ omega (arith, ltb-true p (L .width + U .width) b)
-                | inr b ↦
-                  elim (cases-bool (ltb p (L .width + U .width + L .width * U .width)))
-                    [ inl c ↦ ltb-true _ _ c | inr c ↦ absurd (none-some y (rw (a, b, c) at k)) ]
+                elim (cases-bool (ltb p (L .width + U .width))) [
+                  | inl b ↦ omega (arith, ltb-true p (L .width + U .width) b)
+                  | inr b ↦
+                      elim (cases-bool (ltb p (L .width + U .width + L .width * U .width)))
+                      [ inl c ↦ ltb-true _ _ c | inr c ↦ absurd (none-some y (rw (a, b, c) at k)) ]
                 ]
-            ]
+          ]
 
   pub joined-lawful : L .states * U .states ≤ 4096 → L .width + U .width + L .width * U .width ≤ 4096 → 0 < L .states * U .states → Lawful (joined join L U)
   joined-lawful hn hw pos =
@@ -90,21 +90,21 @@ module _ (join : Joins) (laws : Communication join) (L U : Lts) (lawL : Lawful L
         start-empty = λ e. absurd (omega arith);
         ends-in = λ x e. ltb-true x _ (and-parts (ltb x (L .states * U .states)) _ e .0);
         step-in = λ x p y e.
-          let r = in-range x p y e in
-          let w = joined-back join L U x (y .action) (y .target) (p, e) in
-          let k = joint-in (x / U .states) (x % U .states) (y .action) (w .s′) (w .u′) (div-below x (U .states) (L .states) (pp .1) (r .0)) (mod-below x (U .states) (pp .1)) (w .joint) in
-          (r .0, r .1, k .0, rw (w .at) (digits-lt (k .1) (k .2)))
+            let r = in-range x p y e in
+            let w = joined-back join L U x (y .action) (y .target) (p, e) in
+            let k = joint-in (x / U .states) (x % U .states) (y .action) (w .s′) (w .u′) (div-below x (U .states) (L .states) (pp .1) (r .0)) (mod-below x (U .states) (pp .1)) (w .joint) in
+            (r .0, r .1, k .0, rw (w .at) (digits-lt (k .1) (k .2)));
       }
 
   pub merge-lawful : Lawful (merge join L U)
   merge-lawful =
-      elim (cases-bool (room L U))
-        [ inl e ↦
-          let v = and-parts (leb (L .states * U .states) 4096 && leb (L .width + U .width + L .width * U .width) 4096) (ltb 0 (L .states * U .states)) e in
-          let w = and-parts (leb (L .states * U .states) 4096) (leb (L .width + U .width + L .width * U .width) 4096) (v .0) in
-          rw e (joined-lawful (leb-true _ _ (w .0)) (leb-true _ _ (w .1)) (ltb-true _ _ (v .1)))
+      elim (cases-bool (room L U)) [
+        | inl e ↦
+            let v = and-parts (leb (L .states * U .states) 4096 && leb (L .width + U .width + L .width * U .width) 4096) (ltb 0 (L .states * U .states)) e in
+            let w = and-parts (leb (L .states * U .states) 4096) (leb (L .width + U .width + L .width * U .width) 4096) (v .0) in
+            rw e (joined-lawful (leb-true _ _ (w .0)) (leb-true _ _ (w .1)) (ltb-true _ _ (v .1)))
         | inr e ↦ rw e empty-lawful
-        ]
+      ]
 
 pub block-lawful : (set : Actions) {L : Lts} → Lawful L → Lawful (block set L)
 block-lawful set {L} law = relabel-lawful (dropping set) (dropped-small set) L law

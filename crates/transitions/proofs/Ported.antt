@@ -15,7 +15,7 @@ ports-lawful =
     record {
       commutes = λ a b. grind (arith, tells);
       silent-free = λ a b c h. grind (arith, tells);
-      associates = λ a b c. grind (arith, tells)
+      associates = λ a b c. grind (arith, tells);
     }
 
 -- which of the two sends
@@ -27,14 +27,14 @@ by-ports a b c = (there a b c, back)
   where
     there : (a b c : ℕ) → port-joins a b ≡ Some c → Ported a b c
     there a b c h =
-        elim (sides a b c h)
-          [ inl w ↦
-            let p : ℕ = a / 3 in
-            subst₃ Ported {x = 3 * p + 1} (omega arith) (omega arith) (omega arith) (send-first p (omega arith))
+        elim (sides a b c h) [
+          | inl w ↦
+              let p : ℕ = a / 3 in
+              subst₃ Ported {x = 3 * p + 1} (omega arith) (omega arith) (omega arith) (send-first p (omega arith))
           | inr w ↦
-            let p : ℕ = b / 3 in
-            subst₃ Ported (omega arith) (omega arith) (omega arith) (receive-first p (omega arith))
-          ]
+              let p : ℕ = b / 3 in
+              subst₃ Ported (omega arith) (omega arith) (omega arith) (receive-first p (omega arith))
+        ]
 
     back : {a b c : ℕ} → Ported a b c → port-joins a b ≡ Some c
     back (send-first p h) = grind (arith, tells)

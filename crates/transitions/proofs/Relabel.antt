@@ -38,15 +38,15 @@ module _ (f : Change) where
     side L R B h =
         record {
           step = λ s t hs ht st a s′ p.
-            let w = back f (L .step s (p .0)) a s′ (p .1) in
-            answer s t a (w .0) s′ (w .2) (h .step s t hs ht st (w .0) s′ (p .0, w .1));
+              let w = back f (L .step s (p .0)) a s′ (p .1) in
+              answer s t a (w .0) s′ (w .2) (h .step s t hs ht st (w .0) s′ (p .0, w .1));
           end = λ s t hs ht st e.
-            let w = h .end s t hs ht st e in
-            record { middle = w .middle; leads = silent R (w .leads); keeps = w .keeps; ends = w .ends };
+              let w = h .end s t hs ht st e in
+              record { middle = w .middle; leads = silent R (w .leads); keeps = w .keeps; ends = w .ends };
           root = λ a s′ p.
-            let w = back f (L .step (L .start) (p .0)) a s′ (p .1) in
-            let r = h .root (w .0) s′ (p .0, w .1) in
-            record { target = r .target; steps = forth R (R .start) a (w .0) (r .target) (w .2) (r .steps); stands = r .stands }
+              let w = back f (L .step (L .start) (p .0)) a s′ (p .1) in
+              let r = h .root (w .0) s′ (p .0, w .1) in
+              record { target = r .target; steps = forth R (R .start) a (w .0) (r .target) (w .2) (r .steps); stands = r .stands };
         }
       where
         answer : (s t a b s′ : ℕ) → f b ≡ Some a → Answered R B s t b s′ → Answered (relabel f R) B s t a s′

@@ -22,10 +22,10 @@ module _ (L : Lts) (a s n : ℕ) (below : None-below L a s n) where
 
   pub not-here : ((u : ℕ) → L .step s n ≡ Some (record { action = a; target = u }) → ⊥) → None-below L a s (n + 1)
   not-here here p u h e =
-      elim (cases-eq p n)
-        [ inl q ↦ here u (ap (λ (k : ℕ). L .step s k) (sym q) ∙ e)
+      elim (cases-eq p n) [
+        | inl q ↦ here u (ap (λ (k : ℕ). L .step s k) (sym q) ∙ e)
         | inr q ↦ below p u (omega arith) e
-        ]
+      ]
 
   pub other-action : (x : Step) → L .step s n ≡ Some x → (x .action ≡ a → ⊥) → None-below L a s (n + 1)
   other-action x e f =

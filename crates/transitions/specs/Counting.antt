@@ -54,5 +54,5 @@ counting n take give =
       start = 0;
       width = cond (eqb n 0) 0 2;
       ends = λ k. eqb k 0 && ltb k n;
-      step = counting-step n take give
+      step = counting-step n take give;
     }

@@ -9,7 +9,9 @@ impl ActionSet {
     pub fn new(mask: u64) -> Self
         ensures { λ r. ⌜ has r ≡ visible-of (of-mask mask) ⌝ }
     {
-        ActionSet { bits: mask - mask % 2 }
+        ActionSet {
+            bits: mask - mask % 2,
+        }
     }
 
     pub fn contains(&self, action: u8) -> bool

@@ -22,9 +22,17 @@ impl Counter {
         ensures { λ r. ⌜ Counter-is cap take give (of-counter r) ⌝ }
     {
         if !is_countable(cap, take, give) {
-            return Counter { size: 0, take: 0, give: 0 };
+            return Counter {
+                size: 0,
+                take: 0,
+                give: 0,
+            };
         }
-        Counter { size: cap + 1, take, give }
+        Counter {
+            size: cap + 1,
+            take,
+            give,
+        }
     }
 }
 
@@ -54,10 +62,16 @@ pub impl TransitionSystem for Counter as CounterSystem {
             return None;
         }
         if place == 0 && state + 1 < self.size {
-            return Some(Step { action: self.take, target: state as u16 + 1 });
+            return Some(Step {
+                action: self.take,
+                target: state as u16 + 1,
+            });
         }
         if place == 1 && 0 < state {
-            return Some(Step { action: self.give, target: state as u16 - 1 });
+            return Some(Step {
+                action: self.give,
+                target: state as u16 - 1,
+            });
         }
         None
     }

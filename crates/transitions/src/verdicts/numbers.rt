@@ -23,13 +23,43 @@ impl Verdict {
         ensures { λ r. ⌜ r ≡ figures self ⌝ }
     {
         let Verdict::Fails(counterexample) = self else {
-            return Figures { kind: 0, left: 0, right: 0, side: 0, place: 0 };
+            return Figures {
+                kind: 0,
+                left: 0,
+                right: 0,
+                side: 0,
+                place: 0,
+            };
         };
         match counterexample {
-            Counterexample::StartMissing(left, right) => Figures { kind: 1, left, right, side: 0, place: 0 },
-            Counterexample::StepUnanswered(left, right, side, place) => Figures { kind: 2, left, right, side: side.number(), place },
-            Counterexample::EndUnanswered(left, right, side) => Figures { kind: 3, left, right, side: side.number(), place: 0 },
-            Counterexample::RootUnanswered(left, right, side, place) => Figures { kind: 4, left, right, side: side.number(), place },
+            Counterexample::StartMissing(left, right) => Figures {
+                kind: 1,
+                left,
+                right,
+                side: 0,
+                place: 0,
+            },
+            Counterexample::StepUnanswered(left, right, side, place) => Figures {
+                kind: 2,
+                left,
+                right,
+                side: side.number(),
+                place,
+            },
+            Counterexample::EndUnanswered(left, right, side) => Figures {
+                kind: 3,
+                left,
+                right,
+                side: side.number(),
+                place: 0,
+            },
+            Counterexample::RootUnanswered(left, right, side, place) => Figures {
+                kind: 4,
+                left,
+                right,
+                side: side.number(),
+                place,
+            },
         }
     }
 }

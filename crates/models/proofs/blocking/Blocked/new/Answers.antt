@@ -8,5 +8,5 @@ pub returns : need.returns
 returns g c =
     record {
       is = refl;
-      rules = blocks (has (c .args .set)) (quiet (c .args .set .bits) (c .args .set .visible)) (g .M·TransitionSystem .meaning (c .args .model))
+      rules = blocks (has (c .args .set)) (quiet (c .args .set .bits) (c .args .set .visible)) (g .M·TransitionSystem .meaning (c .args .model));
     }

@@ -1,0 +1,12 @@
+pub mod Finding
+pub mod Groups
+pub mod Firsts
+pub mod Onces
+pub mod Stores
+pub mod Loops
+pub mod Spelled
+pub mod Writings
+pub mod Goods
+pub mod Sounds
+pub mod Backs
+pub mod Refusing

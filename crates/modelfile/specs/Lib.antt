@@ -1,0 +1,9 @@
+pub mod Faults
+pub mod Entries
+pub mod Tables
+pub mod Accepted
+pub mod Tests
+pub mod Refusals
+pub mod Promise
+pub mod Computed
+pub mod State

@@ -1,0 +1,8 @@
+use Prim.Native.Nat.{ℕ, _<_, _≤_, _^_}
+use mathlib.Core.Path.{_≡_}
+use lib.ListN.{length, getD, drop}
+use Rattle.tokens.specs.Numbers.{hex-on}
+use Rattle.tokens.proofs.values.hex_of.Given as given
+
+abbrev pub Inv-loop-b : given.InvT-loop-b
+Inv-loop-b l = (hex-on (l .v) (drop (l .b-index) (l .bytes)) ≡ hex-on 0 (l .bytes)) × (l .v < 16 ^ l .b-index)
