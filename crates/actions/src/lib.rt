@@ -3,7 +3,7 @@
 pub mod acceptance;
 pub mod communications;
 pub mod grouping;
-mod lines;
+pub mod lines;
 pub mod listed;
 pub mod ports;
 pub mod sets;
