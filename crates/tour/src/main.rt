@@ -1,11 +1,14 @@
 // The oversold morning, told in numbered notes: a till that holds a booking's cap against each basket sells on where the house
-// rule stops; the comparer names the step; a till that holds the cap against the booking matches the rule.
+// rule stops; the comparer names the step; a till that holds the cap against the booking matches the rule; a till is read from
+// text and unfolded.
 mod comparing;
+mod from_text;
 mod selling;
 mod tills;
 
 use crate::comparing::Comparison;
 use crate::comparing::compare;
+use crate::from_text::read_till;
 use crate::selling::describe;
 use crate::selling::look_after;
 use crate::selling::sell_out;
@@ -64,5 +67,6 @@ fn main(rt: LibcRuntime) -> io::Result<()> {
     let none: [JoinLine; 0] = [];
     oversold(&rt, &none)?;
     let lines = partners();
-    corrected(&rt, &none, &lines)
+    corrected(&rt, &none, &lines)?;
+    read_till(&rt)
 }

@@ -42,19 +42,29 @@ fn print_unfolding(
     }
 }
 
-fn main(rt: LibcRuntime) -> io::Result<()> {
-    let bytes = fs::read(&rt, "model.txt")?;
+// The unfolding of a file's bytes.
+fn print_model(rt: &LibcRuntime, bytes: &[u8]) -> io::Result<()> {
     let mut lines = [JoinLine { a: 0, b: 0, joint: 0 }; 32];
     let mut equations = [Equation::Ends(0, 0); 1024];
     let mut terms = [Term::Action(0); 256];
-    match read(bytes.as_slice(), &mut lines, &mut equations, &mut terms) {
+    match read(bytes, &mut lines, &mut equations, &mut terms) {
         Ok(n) => print_unfolding(
-            &rt,
+            rt,
             &lines[0..n.lines.min(32)],
             &equations[0..n.equations.min(1024)],
             &terms[0..n.terms.min(256)],
             n.start,
         ),
         Err(refusal) => println!(rt, "r,{},{}", refusal.fault.number(), refusal.line),
+    }
+}
+
+fn main(rt: LibcRuntime) -> io::Result<()> {
+    match fs::read(&rt, "model.txt") {
+        Ok(bytes) => print_model(&rt, bytes.as_slice()),
+        Err(error) => {
+            eprintln!(rt, "unfold: the file model.txt cannot be read here")?;
+            Err(error)
+        }
     }
 }
