@@ -11,7 +11,7 @@ use unfolding::counts::Counts;
 use unfolding::unfolds::unfold;
 
 // A basket sells a pass (action 1) and takes it back (action 2); the till is two such baskets side by side.
-const TILL: &[u8; 42] = b"m,2\ne,0,1,1\ne,1,2,0\nt,1,v,0,0\nt,2,m,1,1\nz,2\n";
+const TILL: &[u8; 44] = b"m,2\ne,0,1,1\ne,1,2,0\nt,1,v,0,0\nt,2,m,1,1\nz,2\n";
 
 fn print_table(rt: &LibcRuntime, ends: &[u16], steps: &[Step], n: Counts) -> io::Result<()> {
     let table = Table::new(ends, steps, n);
