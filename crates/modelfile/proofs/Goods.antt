@@ -1,19 +1,17 @@
 -- What has been read without a fault fits.
 use mathlib.Core.Path.{_≡_, refl, sym, ap, ap₂, subst, _∙_}
-use mathlib.Core.Bool.{Bool, true, false, cond, _&&_, _||_, not}
+use mathlib.Core.Bool.{Bool, true, false, cond, _||_, not}
 use mathlib.Core.List.{List, [], _∷_, _++_}
-use mathlib.Core.Logic.{_⊎_, inl, inr}
-use Prim.Native.Nat.{ℕ, zero, suc, _+_, _%_, _^_, _<_, _≤_}
+use Prim.Native.Nat.{ℕ, zero, suc, _+_, _%_, _<_, _≤_}
 use native.Mathlib.Omega.{arith}
 use lib.Dec.{eqb, leb, ltb}
 use lib.ListN.{length, length-append}
-use borrow.Author.Tests.{eqb-true, eqb-false, leb-false, ltb-false, eq-eqb}
-use Rattle.std.specs.declared.option.Option.{Option}
+use borrow.Author.Tests.{eqb-true, eqb-false, leb-false, ltb-false}
 use Rattle.std.specs.declared.option.Option.the-variants.{None, Some}
 use Rattle.acceptance.specs.Accepted.{Equation-fits, equation-at, Earlier, Term-fits, entry-at}
 use Rattle.acceptance.specs.Walks.{silent-ring}
 use Rattle.rows.specs.Found.{Differ}
-use Rattle.processes.specs.Sameness.{first, second, same-equation, same-term}
+use Rattle.processes.specs.Sameness.{same-equation, same-term}
 use Rattle.processes.specs.declared.equations.Equation.{Equation}
 use Rattle.processes.specs.declared.equations.Equation.the-variants as equation
 use Rattle.processes.specs.declared.terms.Term.{Term}
@@ -21,13 +19,13 @@ use Rattle.tokens.specs.declared.said.Said.{Said}
 use Rattle.tokens.specs.declared.said.Said.the-variants.{Variables, Joins, Becomes, Ends, Gives, Starts}
 use Rattle.tokens.specs.declared.token.Kind.{Kind}
 use Rattle.tokens.specs.declared.token.Kind.the-variants.{Action, Deadlock, Variable, Choice, Sequence, Merge, LeftMerge, CommMerge, Block, Hide}
-use Rattle.transitions.specs.Listed.{line-at, Once, Visible-line, names}
+use Rattle.transitions.specs.Listed.{line-at, Once, Visible-line}
 use Rattle.transitions.specs.Made.{Visible}
 use Rattle.transitions.specs.declared.lines.JoinLine.{JoinLine}
 use Rattle.modelfile.specs.Accepted.{Room, Equation-below, Term-below}
 use Rattle.modelfile.specs.Computed.{Test, test, first-fault, tests-of, fault-said, at-start, not-associative}
 use Rattle.modelfile.specs.Entries.{entry-of, term-of}
-use Rattle.modelfile.specs.Tables.{kind-of, line-says, equation-says, term-says, lines-before, equations-before, terms-before}
+use Rattle.modelfile.specs.Tables.{line-says, equation-says, term-says, lines-before, equations-before, terms-before}
 use Rattle.modelfile.specs.Tests.{Sofar, turn-of, after, out-of-turn, over-limit, not-before, operand-not-before, wrong-number, odd-set, silent-used, any, said-before, full, too-many, start-of}
 use Rattle.modelfile.proofs.Groups.{no-way, or-false, not-false}
 use Rattle.modelfile.proofs.Onces.{place-snoc, no-place, differ-snoc, once-snoc}

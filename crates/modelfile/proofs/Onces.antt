@@ -1,8 +1,8 @@
 -- Lists with one more entry at the end.
 use mathlib.Core.Path.{_≡_, refl, sym, ap, subst, subst₂, _∙_}
-use mathlib.Core.Bool.{Bool, true, false, _||_}
+use mathlib.Core.Bool.{Bool, true, false}
 use mathlib.Core.List.{List, [], _∷_, _++_}
-use mathlib.Core.Logic.{_⊎_, inl, inr}
+use mathlib.Core.Logic.{inl}
 use Prim.Native.Nat.{ℕ, zero, suc, _+_, _<_, _≤_}
 use native.Mathlib.Decide.{decLe}
 use native.Mathlib.Omega.{arith}
@@ -10,11 +10,11 @@ use lib.ListN.{length, getD, length-append}
 use Rattle.rows.specs.Found.{Differ}
 use Rattle.transitions.proofs.Listing.{named}
 use Rattle.transitions.proofs.Fresh.{all-fresh}
-use Rattle.transitions.specs.Listed.{line-at, Names, Once, names}
+use Rattle.transitions.specs.Listed.{line-at, Once, names}
 use Rattle.transitions.specs.declared.lines.JoinLine.{JoinLine}
 use Rattle.modelfile.specs.Tests.{any}
 use Rattle.modelfile.proofs.Finding.{any-none as none-at}
-use Rattle.modelfile.proofs.Groups.{no-way, or-false}
+use Rattle.modelfile.proofs.Groups.{or-false}
 
 pub at-left : {A : Type 0} (xs ys : List A) (k : ℕ) (d : A) → k < length xs → getD (xs ++ ys) k d ≡ getD xs k d
 at-left [] ys k d l = absurd (omega arith)

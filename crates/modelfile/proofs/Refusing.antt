@@ -3,7 +3,7 @@ use mathlib.Core.Path.{_≡_, refl, sym, ap, subst, subst₂, _∙_}
 use mathlib.Core.Bool.{Bool, true, false, cond}
 use mathlib.Core.List.{List, [], _∷_, List·Memᴰ, List·Memᴰ·head, List·Memᴰ·tail, List·Memᴰ·not-nil, List·Memᴰ·cases-cons}
 use mathlib.Core.Logic.{_⊎_, inl, inr}
-use Prim.Native.Nat.{ℕ, zero, suc, _<_, _≤_}
+use Prim.Native.Nat.{ℕ, suc, _≤_}
 use native.Mathlib.Omega.{arith}
 use lib.Dec.{ltb}
 use lib.ListN.{length}
@@ -21,7 +21,7 @@ use Rattle.acceptance.proofs.Circling.{no-ring, ring-found}
 use Rattle.acceptance.specs.Accepted.{Silently}
 use Rattle.acceptance.specs.Walks.{silent-ring}
 use Rattle.modelfile.specs.Accepted.{Room}
-use Rattle.modelfile.specs.Computed.{Test, test, first-fault, tests-of, fault-said, at-start, not-associative, Judged, faulty, fine, judged, Answer, read, refused-at, ended, read-lines, reading}
+use Rattle.modelfile.specs.Computed.{Test, test, first-fault, tests-of, fault-said, at-start, not-associative, Judged, faulty, fine, judged, Answer, refused-at, ended, read-lines, reading}
 use Rattle.modelfile.specs.Entries.{entry-of}
 use Rattle.modelfile.specs.Faults.{number-of}
 use Rattle.modelfile.specs.Refusals.{Names-start, Wrong, Applies, no-form, no-value, wrong, Least, Says, Upto, here, on, Refused, too-long, at-line, no-start, goes-on}

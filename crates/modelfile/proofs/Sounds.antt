@@ -2,12 +2,11 @@
 use mathlib.Core.Path.{_≡_, refl, sym, ap, subst, _∙_}
 use mathlib.Core.Bool.{Bool, true, false}
 use mathlib.Core.List.{List, [], _∷_, _++_, append-assoc}
-use Prim.Native.Nat.{ℕ, zero, suc, _<_, _≤_}
+use Prim.Native.Nat.{ℕ, zero, suc, _<_}
 use native.Mathlib.Omega.{arith}
 use lib.Dec.{ltb}
 use lib.ListN.{length}
 use borrow.Author.Tests.{ltb-false}
-use Rattle.std.specs.declared.option.Option.the-variants.{None, Some}
 use Rattle.acceptance.proofs.Circling.{no-ring}
 use Rattle.tokens.specs.Lines.{raw-lines}
 use Rattle.tokens.specs.declared.said.Said.{Said}
@@ -20,7 +19,7 @@ use Rattle.modelfile.specs.Tables.{Tables, written-line, written, all-lines, r
 use Rattle.modelfile.specs.Tests.{Sofar, nothing}
 use Rattle.modelfile.proofs.Goods.{Good, Passes, passes, said-at, all-on, good-after, said-after, turn-is, earlier}
 use Rattle.modelfile.proofs.Groups.{associative-from}
-use Rattle.modelfile.proofs.Spelled.{unlines, unlines-lines, Chain, done, next, tables-of, Chained, chained}
+use Rattle.modelfile.proofs.Spelled.{unlines-lines, Chain, done, next, tables-of, chained}
 
 -- all that is read
 module _ (R : Room) where

@@ -1,20 +1,20 @@
 -- What is read is the one text of its tables.
-use mathlib.Core.Path.{_≡_, refl, sym, ap, ap₂, subst, subst₂, _∙_}
+use mathlib.Core.Path.{_≡_, refl, sym, ap, ap₂, subst, _∙_}
 use mathlib.Core.List.{List, [], _∷_, _++_, append-assoc}
 use Rattle.std.specs.declared.option.Option.{Option}
 use Rattle.std.specs.declared.option.Option.the-variants.{None, Some}
-use mathlib.Core.Bool.{Bool, true, false, cond, _&&_, _||_, not}
-use Prim.Native.Nat.{ℕ, zero, suc, _+_, _-_, _*_, _/_, _%_, _^_, _<_, _≤_}
+use mathlib.Core.Bool.{Bool, true, false, cond, _&&_, not}
+use Prim.Native.Nat.{ℕ, suc, _+_, _-_, _*_, _/_, _%_, _^_, _<_, _≤_}
 use native.Mathlib.Omega.{arith}
 use native.Mathlib.Nat.{div-div-eq-div-mul, pow-suc}
-use lib.Dec.{T, eqb, leb, ltb}
+use lib.Dec.{eqb, leb, ltb}
 use lib.ListN.{length, getD}
 use borrow.Author.Needs.{needs}
 use borrow.Author.Tests.{eqb-true, leb-true, le-ltb, lt-ltb}
 use Rattle.std.specs.Written.{decimal}
 use Rattle.std.proofs.shelf.Numerals.{Numerals, numerals-by-fold, value-short}
 use Rattle.std.proofs.shelf.Decimals.{decimal-value}
-use Rattle.tokens.specs.Forms.{Shape, variables, joins, becomes, ends, gives, starts, among, letter-byte, sign-byte, letter-in, kind-in, shape-by, shape, and-then, second, values}
+use Rattle.tokens.specs.Forms.{Shape, variables, joins, becomes, ends, gives, starts, among, letter-byte, sign-byte, letter-in, kind-in, shape-by, shape, second, values}
 use Rattle.tokens.specs.Lines.{Raw, whole, cut, grow, raw-lines, on-first, fields}
 use Rattle.tokens.specs.Numbers.{is-digit, all-digits, value-on, plain, number, hex-value, hex-on, set}
 use Rattle.tokens.specs.declared.said.Said.{Said}
@@ -28,7 +28,7 @@ use Rattle.modelfile.specs.declared.faults.Fault.the-variants.{NoForm, NoValue
 use Rattle.modelfile.specs.Accepted.{Room}
 use Rattle.modelfile.specs.Computed.{fault-said, Judged, faulty, fine, judged, Answer, read, refused-at, ended, read-lines}
 use Rattle.modelfile.specs.Entries.{entry-of}
-use Rattle.modelfile.specs.Tables.{Tables, num, hex-digit, hex-digits, second-text, written-line, written}
+use Rattle.modelfile.specs.Tables.{Tables, hex-digit, hex-digits, second-text, written-line, written}
 use Rattle.modelfile.specs.Tests.{Sofar, after, start-of}
 use Rattle.modelfile.proofs.Groups.{then-some}
 

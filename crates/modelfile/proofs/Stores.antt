@@ -2,19 +2,19 @@
 use mathlib.Core.Path.{_≡_, refl, sym, ap, subst, _∙_}
 use mathlib.Core.Bool.{false}
 use mathlib.Core.List.{List, [], _∷_, _++_}
-use Prim.Native.Nat.{ℕ, _+_, _<_, _≤_}
+use Prim.Native.Nat.{ℕ, _+_, _<_}
 use native.Mathlib.Omega.{arith}
-use lib.ListN.{length, take, drop, set}
+use lib.ListN.{length, take, set}
 use Rattle.std.proofs.shelf.Lists.{take-more-set, drop-set-lt, length-set}
 use Rattle.processes.specs.declared.equations.Equation.{Equation}
 use Rattle.processes.specs.declared.terms.Term.{Term}
-use Rattle.transitions.specs.Listed.{Once, names}
+use Rattle.transitions.specs.Listed.{Once}
 use Rattle.transitions.specs.declared.lines.JoinLine.{JoinLine}
 use Rattle.modelfile.specs.declared.entries.Entry.{Entry}
 use Rattle.modelfile.specs.declared.entries.Entry.the-variants.{Joins, Does, Gives}
 use Rattle.modelfile.specs.declared.entries.Sofar.{Sofar}
 use Rattle.modelfile.specs.State.{sofar-is, Counted, Fits, Roomy, Stored}
-use Rattle.modelfile.specs.Tests.{after, any, said-before}
+use Rattle.modelfile.specs.Tests.{after, said-before}
 use Rattle.modelfile.specs.Tests as file
 use Rattle.modelfile.proofs.Onces.{once-snoc}
 

@@ -1,19 +1,19 @@
 -- A written line is read as what it says.
-use mathlib.Core.Path.{_≡_, refl, sym, ap, ap₂, subst, subst₂, _∙_}
+use mathlib.Core.Path.{_≡_, refl, sym, ap, ap₂, subst, _∙_}
 use mathlib.Core.List.{List, [], _∷_, _++_, append-assoc}
 use Rattle.std.specs.declared.option.Option.{Option}
 use Rattle.std.specs.declared.option.Option.the-variants.{None, Some}
-use mathlib.Core.Bool.{Bool, true, false, cond, _&&_, _||_, not}
+use mathlib.Core.Bool.{Bool, true, false, cond, _&&_, not}
 use Prim.Native.Nat.{ℕ, zero, suc, _+_, _-_, _*_, _/_, _%_, _^_, _<_, _≤_}
 use native.Mathlib.Omega.{arith}
 use native.Mathlib.Nat.{div-div-eq-div-mul, pow-suc}
 use lib.Dec.{eqb, leb, ltb}
 use lib.ListN.{length, getD}
-use borrow.Author.Tests.{eqb-true, ne-eqb, leb-true, ltb-true, ltb-false, le-leb, lt-leb, le-ltb, lt-ltb, eq-eqb}
+use borrow.Author.Tests.{ne-eqb, leb-true, ltb-true, ltb-false, le-leb, lt-leb}
 use Rattle.std.specs.Written.{decimal}
 use Rattle.std.proofs.shelf.Decimals.{digits-decimal, value-decimal, length-decimal-le, first-decimal, decimal-digit}
-use Rattle.tokens.specs.Forms.{Shape, variables, joins, becomes, ends, gives, starts, sign-byte, kind-in, letter-in, shape-by, shape, and-then, second, values}
-use Rattle.tokens.specs.Lines.{Raw, whole, cut, grow, raw-lines, on-first, fields}
+use Rattle.tokens.specs.Forms.{Shape, variables, joins, becomes, ends, gives, starts, sign-byte, kind-in, shape-by, shape, second, values}
+use Rattle.tokens.specs.Lines.{Raw, whole, grow, raw-lines, on-first, fields}
 use Rattle.tokens.specs.Numbers.{is-digit, all-digits, value-on, plain, number, hex-value, hex-on, set}
 use Rattle.tokens.specs.declared.said.Said.{Said}
 use Rattle.tokens.specs.declared.said.Said.the-variants.{Variables, Joins, Becomes, Ends, Gives, Starts}

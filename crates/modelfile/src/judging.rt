@@ -1,6 +1,6 @@
 // The fault of a line: the first that applies.
 ghost use mathlib.Core.Path.{_≡_};
-ghost use Prim.Native.Nat.{ℕ, _≤_};
+ghost use Prim.Native.Nat.{_≤_};
 ghost use Rattle.std.specs.declared.option.Option.the-variants.{Some, None};
 ghost use Rattle.transitions.specs.Listed.{Once};
 ghost use Rattle.modelfile.specs.Computed.{first-fault, early-tests, late-tests, start-tests};

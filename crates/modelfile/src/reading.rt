@@ -1,6 +1,5 @@
 // A model file read into lent tables.
 ghost use mathlib.Core.Path.{_≡_};
-ghost use Prim.Native.Nat.{ℕ};
 ghost use Rattle.std.specs.declared.result.Result.the-variants.{Ok, Err};
 ghost use Rattle.modelfile.specs.Computed.{reading as computed, refused-at};
 ghost use Rattle.modelfile.specs.Promise.{Is-read, room-is};

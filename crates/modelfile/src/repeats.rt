@@ -1,13 +1,11 @@
 // Whether an entry stands already, and whether there is room for it.
 ghost use mathlib.Core.Path.{_≡_};
 ghost use mathlib.Core.Bool.{false};
-ghost use Prim.Native.Nat.{ℕ, _≤_};
+ghost use Prim.Native.Nat.{_≤_};
 ghost use lib.ListN.{length, take};
-ghost use Rattle.std.specs.declared.option.Option.{Option};
 ghost use Rattle.processes.specs.Sameness.{same-equation, same-term};
 ghost use Rattle.transitions.specs.Listed.{names};
-ghost use Rattle.modelfile.specs.Accepted.{Room};
-ghost use Rattle.modelfile.specs.State.{Counted, Roomy, sofar-is};
+ghost use Rattle.modelfile.specs.State.{Counted, sofar-is};
 ghost use Rattle.modelfile.specs.Tests.{any, said-before, full, too-many, start-of};
 use super::entries::Entry;
 use super::entries::Sofar;

@@ -1,5 +1,4 @@
 // An entry put behind what stands in the tables.
-ghost use mathlib.Core.Path.{_≡_};
 ghost use Rattle.modelfile.specs.State.{Counted, Small, Fits, Stored};
 use super::entries::Entry;
 use super::entries::Sofar;

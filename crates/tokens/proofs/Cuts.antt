@@ -1,14 +1,13 @@
 -- Where the first stop stands, the line or field is cut.
-use mathlib.Core.Path.{_≡_, refl, sym, ap, _∙_}
+use mathlib.Core.Path.{_≡_, refl, ap, _∙_}
 use mathlib.Core.List.{List, [], _∷_}
 use mathlib.Core.Bool.{Bool, true, false, cond}
-use Prim.Native.Nat.{ℕ, zero, suc, _+_, _<_, _≤_}
+use Prim.Native.Nat.{ℕ, zero, suc, _<_}
 use native.Mathlib.Omega.{arith}
-use native.Mathlib.Numerals.{add-one}
 use lib.Dec.{eqb}
 use lib.ListN.{length, getD, take, drop}
 use Rattle.std.proofs.shelf.Tests.{eq-eqb, ne-eqb, cond-true, cond-false}
-use Rattle.tokens.specs.Lines.{Raw, whole, cut, grow, raw-lines, on-first, fields}
+use Rattle.tokens.specs.Lines.{whole, cut, grow, raw-lines, on-first, fields}
 
 abbrev Free : ℕ → ℕ → List ℕ → Type 0
 Free stop e xs = (k : ℕ) → k < e → getD xs k 0 ≡ stop → ⊥
@@ -41,9 +40,9 @@ pub lines-cut′ : (xs : List ℕ) → 0 < length xs → Free 10 (length xs) xs 
 lines-cut′ [] l f = absurd (omega arith)
 lines-cut′ (x ∷ xs) l f = lines-cut x xs f
 
-pub fields-Some : (xs : List ℕ) → 0 < length (fields xs)
-fields-Some [] = omega arith
-fields-Some (x ∷ xs) = go (eqb x 44) (fields xs) (fields-Some xs)
+pub fields-some : (xs : List ℕ) → 0 < length (fields xs)
+fields-some [] = omega arith
+fields-some (x ∷ xs) = go (eqb x 44) (fields xs) (fields-some xs)
   where
     go : (b : Bool) (fs : List (List ℕ)) → 0 < length fs → 0 < length (cond b ([] ∷ fs) (on-first x fs))
     go true fs h = omega arith

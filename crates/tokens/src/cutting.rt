@@ -1,7 +1,7 @@
 // Lines cut at their line feeds, and fields cut at their commas.
 ghost use mathlib.Core.Path.{_≡_};
 ghost use mathlib.Core.List.{[], _∷_};
-ghost use Prim.Native.Nat.{ℕ, _<_};
+ghost use Prim.Native.Nat.{_<_};
 ghost use lib.ListN.{length};
 ghost use Rattle.std.specs.declared.option.Option.the-variants.{Some, None};
 ghost use Rattle.tokens.specs.Lines.{Stops, raw-lines, fields, whole, cut};

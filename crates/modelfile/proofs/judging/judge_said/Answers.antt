@@ -1,4 +1,4 @@
-use mathlib.Core.Path.{_≡_, ap, _∙_}
+use mathlib.Core.Path.{ap, _∙_}
 use Rattle.std.proofs.shelf.Lists.{length-take-le}
 use Rattle.modelfile.specs.Computed.{first-fault, early-tests, late-tests}
 use Rattle.modelfile.specs.Entries.{entry-of}

@@ -1,4 +1,4 @@
-use mathlib.Core.Path.{_≡_, refl}
+use mathlib.Core.Path.{refl}
 use Rattle.modelfile.proofs.Firsts.{ring-decided, start-by}
 use Rattle.modelfile.proofs.Groups.{not-decided}
 use Rattle.modelfile.proofs.judging.start_fault.Needs as need

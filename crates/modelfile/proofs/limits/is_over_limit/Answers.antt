@@ -1,4 +1,4 @@
-use mathlib.Core.Path.{_≡_, sym, ap, subst, _∙_}
+use mathlib.Core.Path.{sym, ap, subst, _∙_}
 use Rattle.modelfile.specs.State.{Limited}
 use Rattle.modelfile.specs.Tests.{over-limit}
 use Rattle.modelfile.proofs.limits.is_over_limit.Needs as need

@@ -1,9 +1,7 @@
 use mathlib.Core.Path.{_∙_, ap}
 use native.Mathlib.Nat.{sub-zero}
 use lib.ListN.{take}
-use Rattle.processes.specs.Sameness.{same-equation, same-term}
-use Rattle.transitions.specs.Listed.{names}
-use Rattle.transitions.specs.declared.lines.JoinLine.{JoinLine}
+use Rattle.processes.specs.Sameness.{same-equation}
 use Rattle.modelfile.specs.Tests.{any}
 use Rattle.modelfile.proofs.Finding.{found-any}
 use Rattle.modelfile.proofs.repeats.is_equation_before.Needs as need

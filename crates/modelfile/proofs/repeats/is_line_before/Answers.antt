@@ -1,7 +1,6 @@
 use mathlib.Core.Path.{_∙_, ap}
 use native.Mathlib.Nat.{sub-zero}
 use lib.ListN.{take}
-use Rattle.processes.specs.Sameness.{same-equation, same-term}
 use Rattle.transitions.specs.Listed.{names}
 use Rattle.transitions.specs.declared.lines.JoinLine.{JoinLine}
 use Rattle.modelfile.specs.Tests.{any}

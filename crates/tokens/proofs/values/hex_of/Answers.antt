@@ -1,8 +1,6 @@
-use mathlib.Core.Path.{_≡_, sym, _∙_, ap}
+use mathlib.Core.Path.{sym, _∙_}
 use native.Mathlib.Omega.{arith}
-use borrow.Author.Needs.{needs}
-use Prim.Native.Nat.{_<_, _≤_, _^_}
-use lib.ListN.{length, getD}
+use Prim.Native.Nat.{_<_, _^_}
 use Rattle.std.proofs.shelf.Lists.{at-drop-all}
 use Rattle.tokens.specs.Numbers.{hex-on}
 use Rattle.tokens.proofs.Digits.{hex-bad, hex-more, sixteen-more, sixteen-few}

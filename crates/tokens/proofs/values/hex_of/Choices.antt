@@ -1,6 +1,6 @@
-use Prim.Native.Nat.{ℕ, _<_, _≤_, _^_}
+use Prim.Native.Nat.{_<_, _^_}
 use mathlib.Core.Path.{_≡_}
-use lib.ListN.{length, getD, drop}
+use lib.ListN.{drop}
 use Rattle.tokens.specs.Numbers.{hex-on}
 use Rattle.tokens.proofs.values.hex_of.Given as given
 
