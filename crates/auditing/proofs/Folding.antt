@@ -51,8 +51,8 @@ module _ {X Y : Type 0} (ml : X → Lts) (mr : Y → Lts) (f : Frame) (calls : L
     pub lent : name (v .bytes) ≡ f .lender
     pub set : standing v ≡ plain (f .rows) (f .columns) (take i calls)
     pub told : (k : ℕ) → k < i → Told-at answers k
-    pub marks : Swept (max (f .rows) (f .columns)) (f .scratch .marks) marks
-    pub queue : Swept (max (f .rows) (f .columns)) (f .scratch .queue) queue
+    pub swept-marks : Swept (max (f .rows) (f .columns)) (f .scratch .marks) marks
+    pub swept-queue : Swept (max (f .rows) (f .columns)) (f .scratch .queue) queue
 
 -- The answer a was written at i, where there is room.
 pub record Wrote (i : ℕ) (a : Answer) (old new : List Answer) : Type 0 where
@@ -85,7 +85,7 @@ module _ {X Y : Type 0} (ml : X → Lts) (mr : Y → Lts) (c : Call X Y) (a : An
 pub so-far-none : {X Y : Type 0} (ml : X → Lts) (mr : Y → Lts) (marks queue : List ℕ) (calls : List (Call X Y)) (answers : List Answer) (v : Sheet) → standing v ≡ no-pairs
     → So-far ml mr (record { lender = name (v .bytes); rows = rows-of v; columns = columns-of v; scratch = record { marks = marks; queue = queue } }) calls 0 answers marks queue v
 so-far-none ml mr marks queue calls answers v none =
-    record { rows = refl; columns = refl; lent = refl; set = none; told = λ k h. absurd (omega arith); marks = inl refl; queue = inl refl }
+    record { rows = refl; columns = refl; lent = refl; set = none; told = λ k h. absurd (omega arith); swept-marks = inl refl; swept-queue = inl refl }
 
 module _ {X Y : Type 0} (ml : X → Lts) (mr : Y → Lts) (f : Frame) (calls : List (Call X Y)) where
   pub so-far-more : (i : ℕ) (answers answers′ : List Answer) (marks marks′ queue queue′ : List ℕ) (v w : Sheet) (c : Call X Y) (a : Answer)
@@ -104,12 +104,13 @@ module _ {X Y : Type 0} (ml : X → Lts) (mr : Y → Lts) (f : Frame) (calls : L
         ∙ ap (λ (B : Pairing). next (f .rows) (f .columns) B c) (so .set)
         ∙ sym (plain-more (f .rows) (f .columns) calls i c lt e);
     told = λ k h. ⊎-elim (λ (q : k ≡ i). subst (λ (j : ℕ). Told-at ml mr f calls answers′ j) (sym q) here) (λ (ne : k ≡ i → ⊥). before k ne h) (cases-eq k i);
-    marks = swept-more a _ (f .scratch .marks) marks marks′ (so .marks) (subst (λ (n : ℕ). Left-by a n marks marks′) larger-is lm);
-    queue = swept-more a _ (f .scratch .queue) queue queue′ (so .queue) (subst (λ (n : ℕ). Left-by a n queue queue′) larger-is lq);
+    swept-marks = swept-more a _ (f .scratch .marks) marks marks′ (so .swept-marks) (subst (λ (n : ℕ). Left-by a n marks marks′) larger-is lm);
+    swept-queue = swept-more a _ (f .scratch .queue) queue queue′ (so .swept-queue) (subst (λ (n : ℕ). Left-by a n queue queue′) larger-is lq);
   }
     where
       larger-is : max (rows-of v) (columns-of v) ≡ max (f .rows) (f .columns)
       larger-is = ap (λ (n : ℕ). max n (columns-of v)) (so .rows) ∙ ap (λ (m : ℕ). max (f .rows) m) (so .columns)
+
       here : Told-at ml mr f calls answers′ i
       here c′ l e′ =
           let same : c ≡ c′ = e ∙ same-default calls i c c′ lt ∙ sym e′ in
@@ -117,6 +118,7 @@ module _ {X Y : Type 0} (ml : X → Lts) (mr : Y → Lts) (f : Frame) (calls : L
           let now-it : Tells ml mr (f .rows) (f .columns) (room-of (f .scratch)) (plain (f .rows) (f .columns) (take i calls)) c a = tells-same ml mr c a (so .rows) (so .columns) at-room (so .set) tells in
           subst (λ (x : Call X Y). Tells ml mr (f .rows) (f .columns) (room-of (f .scratch)) (plain (f .rows) (f .columns) (take i calls)) x (getD answers′ i Done)) same
           (subst (λ (x : Answer). Tells ml mr (f .rows) (f .columns) (room-of (f .scratch)) (plain (f .rows) (f .columns) (take i calls)) c x) (sym (wr .here room-for)) now-it)
+
       before : (k : ℕ) → (k ≡ i → ⊥) → k < i + 1 → Told-at ml mr f calls answers′ k
       before k ne h c′ l e′ =
           subst (λ (x : Answer). Tells ml mr (f .rows) (f .columns) (room-of (f .scratch)) (plain (f .rows) (f .columns) (take k calls)) c′ x) (sym (wr .same k ne))

@@ -97,24 +97,24 @@ module _ {X Y : Type 0} (ml : X → Lts) (mr : Y → Lts) (bytes : RefT (List �
       → Audited ml mr bytes n m calls L R ask before after answers said v
   promised ask before i answers lender rows columns said v mid mid′ after el en em so whole judge e′ reply e″ =
       let so′ : So-far ml mr (record { lender = lender; rows = n; columns = m; scratch = before }) calls i answers (mid .marks) (mid .queue) v =
-          subst (λ (y : ℕ). So-far ml mr (record { lender = lender; rows = n; columns = y; scratch = before }) calls i answers (mid .marks) (mid .queue) v) em
-          (subst (λ (x : ℕ). So-far ml mr (record { lender = lender; rows = x; columns = columns; scratch = before }) calls i answers (mid .marks) (mid .queue) v) en so) in
+      subst (λ (y : ℕ). So-far ml mr (record { lender = lender; rows = n; columns = y; scratch = before }) calls i answers (mid .marks) (mid .queue) v) em
+      (subst (λ (x : ℕ). So-far ml mr (record { lender = lender; rows = x; columns = columns; scratch = before }) calls i answers (mid .marks) (mid .queue) v) en so) in
       let all : standing v ≡ plain n m calls = so′ .set ∙ ap (λ (cs : List (Call X Y)). plain n m cs) (take-all i calls whole) in
       let verdict : Says (judge-why n m L R (room-of before .marks) (room-of before .queue)) L R (plain n m calls) (said .verdict) =
-          subst (λ (B : Pairing). Says (judge-why n m L R (room-of before .marks) (room-of before .queue)) L R B (said .verdict)) all
-          (subst (λ z. Says (judge-why n m L R (z .marks) (z .queue)) L R (standing v) (said .verdict)) e′
-          (subst (λ (y : ℕ). Says (judge-why n y L R (room-of mid .marks) (room-of mid .queue)) L R (standing v) (said .verdict)) (so′ .columns)
-          (subst (λ (x : ℕ). Says (judge-why x (columns-of v) L R (room-of mid .marks) (room-of mid .queue)) L R (standing v) (said .verdict)) (so′ .rows) (judge .says)))) in
+      subst (λ (B : Pairing). Says (judge-why n m L R (room-of before .marks) (room-of before .queue)) L R B (said .verdict)) all
+      (subst (λ z. Says (judge-why n m L R (z .marks) (z .queue)) L R (standing v) (said .verdict)) e′
+      (subst (λ (y : ℕ). Says (judge-why n y L R (room-of mid .marks) (room-of mid .queue)) L R (standing v) (said .verdict)) (so′ .columns)
+      (subst (λ (x : ℕ). Says (judge-why x (columns-of v) L R (room-of mid .marks) (room-of mid .queue)) L R (standing v) (said .verdict)) (so′ .rows) (judge .says)))) in
       let told : Reply-says (reply-why n m L R (room-of before .marks) (room-of before .queue) (plain n m calls) ask) L R (plain n m calls) ask (said .reply) =
-          subst (λ (B : Pairing). Reply-says (reply-why n m L R (room-of before .marks) (room-of before .queue) B ask) L R B ask (said .reply)) all
-          (subst (λ z. Reply-says (reply-why n m L R (z .marks) (z .queue) (standing v) ask) L R (standing v) ask (said .reply)) e″
-          (subst (λ (y : ℕ). Reply-says (reply-why n y L R (room-of mid′ .marks) (room-of mid′ .queue) (standing v) ask) L R (standing v) ask (said .reply)) (so′ .columns)
-          (subst (λ (x : ℕ). Reply-says (reply-why x (columns-of v) L R (room-of mid′ .marks) (room-of mid′ .queue) (standing v) ask) L R (standing v) ask (said .reply)) (so′ .rows) (reply .says)))) in
+      subst (λ (B : Pairing). Reply-says (reply-why n m L R (room-of before .marks) (room-of before .queue) B ask) L R B ask (said .reply)) all
+      (subst (λ z. Reply-says (reply-why n m L R (z .marks) (z .queue) (standing v) ask) L R (standing v) ask (said .reply)) e″
+      (subst (λ (y : ℕ). Reply-says (reply-why n y L R (room-of mid′ .marks) (room-of mid′ .queue) (standing v) ask) L R (standing v) ask (said .reply)) (so′ .columns)
+      (subst (λ (x : ℕ). Reply-says (reply-why x (columns-of v) L R (room-of mid′ .marks) (room-of mid′ .queue) (standing v) ask) L R (standing v) ask (said .reply)) (so′ .rows) (reply .says)))) in
       let sized-v = when-more (said .verdict) (λ w. ready n m L R _ _ w .same) (when-judged _ L R (plain n m calls) (said .verdict) verdict) in
       let sized-r = when-more (said .reply) (λ w. ready n m L R _ _ (both-none (judge-why n m L R (room-of before .marks) (room-of before .queue)) (unasked L R (plain n m calls) ask) w .0) .same)
-          (when-replied _ L R (plain n m calls) ask (said .reply) told) in
-      let marks = ended-at (said .verdict) (said .reply) (larger L R) (max n m) (before .marks) (mid .marks) (mid′ .marks) (after .marks) sized-v sized-r (so′ .marks) (judge .marks) (reply .marks) in
-      let queue = ended-at (said .verdict) (said .reply) (larger L R) (max n m) (before .queue) (mid .queue) (mid′ .queue) (after .queue) sized-v sized-r (so′ .queue) (judge .queue) (reply .queue) in
+      (when-replied _ L R (plain n m calls) ask (said .reply) told) in
+      let marks = ended-at (said .verdict) (said .reply) (larger L R) (max n m) (before .marks) (mid .marks) (mid′ .marks) (after .marks) sized-v sized-r (so′ .swept-marks) (judge .marks) (reply .marks) in
+      let queue = ended-at (said .verdict) (said .reply) (larger L R) (max n m) (before .queue) (mid .queue) (mid′ .queue) (after .queue) sized-v sized-r (so′ .swept-queue) (judge .queue) (reply .queue) in
       record {
         rows = so′ .rows;
         columns = so′ .columns;

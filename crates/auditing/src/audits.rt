@@ -30,7 +30,13 @@ pub struct Said {
 // Opens a sheet for two models over lent bytes, makes every call of the list in order, refused ones too, each with its own models
 // and its part of the scratch, and writes their answers into a lent row, as far as that goes. Then it judges the two models of the
 // question and asks them for a reply.
-pub fn audit<'a, L: TransitionSystem, R: TransitionSystem, A: TransitionSystem, B: TransitionSystem>(
+pub fn audit<
+    'a,
+    L: TransitionSystem,
+    R: TransitionSystem,
+    A: TransitionSystem,
+    B: TransitionSystem,
+>(
     bytes: &'a mut [u8],
     first: &L,
     second: &R,

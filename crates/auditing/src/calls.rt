@@ -14,11 +14,32 @@ pub struct Lent {
 // A call with all that it is handed. Those that look at models have their own.
 #[derive(Drop)]
 pub enum Call<'a, L, R> {
-    Pair { s: usize, t: usize },
-    Unpair { s: usize, t: usize },
-    Judge { left: &'a L, right: &'a R, lent: Lent },
-    Without { left: &'a L, right: &'a R, s: usize, t: usize, lent: Lent },
-    Reply { left: &'a L, right: &'a R, ask: Ask, lent: Lent },
+    Pair {
+        s: usize,
+        t: usize,
+    },
+    Unpair {
+        s: usize,
+        t: usize,
+    },
+    Judge {
+        left: &'a L,
+        right: &'a R,
+        lent: Lent,
+    },
+    Without {
+        left: &'a L,
+        right: &'a R,
+        s: usize,
+        t: usize,
+        lent: Lent,
+    },
+    Reply {
+        left: &'a L,
+        right: &'a R,
+        ask: Ask,
+        lent: Lent,
+    },
 }
 
 #[derive(Clone, Copy)]

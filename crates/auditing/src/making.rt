@@ -120,11 +120,18 @@ pub fn make<L: TransitionSystem, R: TransitionSystem>(
         Call::Judge { left, right, lent } => {
             judge_lent(sheet, *left, *right, *lent, marks, queue)
         }
-        Call::Without { left, right, s, t, lent } => {
-            without_lent(sheet, *left, *right, *s, *t, *lent, marks, queue)
-        }
-        Call::Reply { left, right, ask, lent } => {
-            reply_lent(sheet, *left, *right, *ask, *lent, marks, queue)
-        }
+        Call::Without {
+            left,
+            right,
+            s,
+            t,
+            lent,
+        } => { without_lent(sheet, *left, *right, *s, *t, *lent, marks, queue) }
+        Call::Reply {
+            left,
+            right,
+            ask,
+            lent,
+        } => { reply_lent(sheet, *left, *right, *ask, *lent, marks, queue) }
     }
 }

@@ -142,9 +142,25 @@ pub fn reply<L: TransitionSystem, R: TransitionSystem, P: Pairing>(
     let want = asked(left, right, pairing, ask)?;
     let n = left.states().max(right.states());
     if ask.side == 0 {
-        Ok(reply_in(right, pairing, ask.s, want, ask.t, &mut marks[0..n], &mut queue[0..n]))
+        Ok(reply_in(
+            right,
+            pairing,
+            ask.s,
+            want,
+            ask.t,
+            &mut marks[0..n],
+            &mut queue[0..n],
+        ))
     } else {
         let flipped = Flipped { pairing };
-        Ok(reply_in(left, &flipped, ask.t, want, ask.s, &mut marks[0..n], &mut queue[0..n]))
+        Ok(reply_in(
+            left,
+            &flipped,
+            ask.t,
+            want,
+            ask.s,
+            &mut marks[0..n],
+            &mut queue[0..n],
+        ))
     }
 }

@@ -19,10 +19,10 @@ loop-i-holds g c = so-far-none _ _ (c .args .marks .now) (c .args .queue .now) (
 pub loop-i-again : need.loop-i-again
 loop-i-again g c =
     let wrote : Wrote (c .loop-i .i) (c .make-answer .result) (c .loop-i .answers) (c .if-i-answers .answers) =
-        elim (c .if-i-answers .came) [
-            then-i-answers w ↦ subst (λ (xs : List Answer). Wrote (c .loop-i .i) (c .make-answer .result) (c .loop-i .answers) xs) (sym (w .answers-is)) (wrote-in (c .loop-i .i) (c .make-answer .result) (c .loop-i .answers))
-          | else-i-answers w ↦ subst (λ (xs : List Answer). Wrote (c .loop-i .i) (c .make-answer .result) (c .loop-i .answers) xs) (sym (w .answers-is)) (wrote-past (c .loop-i .i) (c .make-answer .result) (c .loop-i .answers) (w .if-i-answers .left))
-        ] in
+    elim (c .if-i-answers .came) [
+      | then-i-answers w ↦ subst (λ (xs : List Answer). Wrote (c .loop-i .i) (c .make-answer .result) (c .loop-i .answers) xs) (sym (w .answers-is)) (wrote-in (c .loop-i .i) (c .make-answer .result) (c .loop-i .answers))
+      | else-i-answers w ↦ subst (λ (xs : List Answer). Wrote (c .loop-i .i) (c .make-answer .result) (c .loop-i .answers) xs) (sym (w .answers-is)) (wrote-past (c .loop-i .i) (c .make-answer .result) (c .loop-i .answers) (w .if-i-answers .left))
+    ] in
     so-far-more (g .L·TransitionSystem .meaning) (g .R·TransitionSystem .meaning) _ (c .args .calls .now) (c .loop-i .i) (c .loop-i .answers) (c .if-i-answers .answers)
     (c .loop-i .marks) (c .make-answer .last .marks) (c .loop-i .queue) (c .make-answer .last .queue) (c .loop-i .sheet) (c .make-answer .last .sheet)
     (c .index-calls-i .result) (c .make-answer .result) (c .loop-i .inv) (c .make-answer .ensures .kept) (c .make-answer .ensures .after) (c .make-answer .ensures .tells)

@@ -16,9 +16,12 @@ returns g c =
     let told = c .judge .ensures in
     let free = when-judged _ L R (standing v) (c .judge .result) (told .says) in
     record {
-      tells =
-          (c .judge .result, c .answer-of-verdict .ensures, subst (λ (z : Room). Says (judge-why (rows-of v) (columns-of v) L R (z .marks) (z .queue)) L R (standing v) (c .judge .result))
-          (part-lent (c .args .marks .now) (c .args .queue .now) (c .args .lent) (c .min-m .result) (c .min-q .result) (c .min-m .ensures) (c .min-q .ensures)) (told .says));
+      tells = (
+        c .judge .result,
+        c .answer-of-verdict .ensures,
+        subst (λ (z : Room). Says (judge-why (rows-of v) (columns-of v) L R (z .marks) (z .queue)) L R (standing v) (c .judge .result))
+            (part-lent (c .args .marks .now) (c .args .queue .now) (c .args .lent) (c .min-m .result) (c .min-q .result) (c .min-m .ensures) (c .min-q .ensures)) (told .says),
+      );
       marks = by-verdict (c .judge .result) (c .answer-of-verdict .result) _ _ _ (c .answer-of-verdict .ensures)
           (lent-marks (c .judge .result) (rows-of v) (columns-of v) L R (c .args .marks .now) (c .args .queue .now) (c .judge .last .marks) (c .args .lent) (c .min-m .result) (c .min-q .result) (c .min-m .ensures) (c .min-q .ensures) free (c .judge .kept .marks) (told .marks));
       queue = by-verdict (c .judge .result) (c .answer-of-verdict .result) _ _ _ (c .answer-of-verdict .ensures)

@@ -16,9 +16,12 @@ returns g c =
     let told = c .reply .ensures in
     let free = when-more (c .reply .result) (λ w. both-none _ _ w .0) (when-replied _ L R (standing v) (c .args .ask) (c .reply .result) (told .says)) in
     record {
-      tells =
-          (c .reply .result, c .answer-of-reply .ensures, subst (λ (z : Room). Reply-says (reply-why (rows-of v) (columns-of v) L R (z .marks) (z .queue) (standing v) (c .args .ask)) L R (standing v) (c .args .ask) (c .reply .result))
-          (part-lent (c .args .marks .now) (c .args .queue .now) (c .args .lent) (c .min-m .result) (c .min-q .result) (c .min-m .ensures) (c .min-q .ensures)) (told .says));
+      tells = (
+        c .reply .result,
+        c .answer-of-reply .ensures,
+        subst (λ (z : Room). Reply-says (reply-why (rows-of v) (columns-of v) L R (z .marks) (z .queue) (standing v) (c .args .ask)) L R (standing v) (c .args .ask) (c .reply .result))
+            (part-lent (c .args .marks .now) (c .args .queue .now) (c .args .lent) (c .min-m .result) (c .min-q .result) (c .min-m .ensures) (c .min-q .ensures)) (told .says),
+      );
       marks = by-reply (c .reply .result) (c .answer-of-reply .result) _ _ _ (c .answer-of-reply .ensures)
           (lent-marks (c .reply .result) (rows-of v) (columns-of v) L R (c .args .marks .now) (c .args .queue .now) (c .reply .last .marks) (c .args .lent) (c .min-m .result) (c .min-q .result) (c .min-m .ensures) (c .min-q .ensures) free (c .reply .kept .marks) (told .marks));
       queue = by-reply (c .reply .result) (c .answer-of-reply .result) _ _ _ (c .answer-of-reply .ensures)

@@ -18,9 +18,12 @@ returns g c =
     record {
       kept = c .without .ensures .kept;
       after = c .without .ensures .pairs;
-      tells =
-          (c .without .result, c .answer-of-verdict .ensures, subst (λ (z : Room). Says (without-why (rows-of v) (columns-of v) L R (z .marks) (z .queue) (standing v) (c .args .s) (c .args .t)) L R (removing (standing v) (c .args .s) (c .args .t)) (c .without .result))
-          (part-lent (c .args .marks .now) (c .args .queue .now) (c .args .lent) (c .min-m .result) (c .min-q .result) (c .min-m .ensures) (c .min-q .ensures)) (told .says));
+      tells = (
+        c .without .result,
+        c .answer-of-verdict .ensures,
+        subst (λ (z : Room). Says (without-why (rows-of v) (columns-of v) L R (z .marks) (z .queue) (standing v) (c .args .s) (c .args .t)) L R (removing (standing v) (c .args .s) (c .args .t)) (c .without .result))
+            (part-lent (c .args .marks .now) (c .args .queue .now) (c .args .lent) (c .min-m .result) (c .min-q .result) (c .min-m .ensures) (c .min-q .ensures)) (told .says),
+      );
       marks = by-verdict (c .without .result) (c .answer-of-verdict .result) _ _ _ (c .answer-of-verdict .ensures)
           (lent-marks (c .without .result) (rows-of v) (columns-of v) L R (c .args .marks .now) (c .args .queue .now) (c .without .last .marks) (c .args .lent) (c .min-m .result) (c .min-q .result) (c .min-m .ensures) (c .min-q .ensures) free (c .without .kept .marks) (told .marks));
       queue = by-verdict (c .without .result) (c .answer-of-verdict .result) _ _ _ (c .answer-of-verdict .ensures)
