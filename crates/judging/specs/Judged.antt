@@ -25,12 +25,16 @@ pub record Scratch : Type 0 where
 abbrev pub larger : Lts → Lts → ℕ
 larger L R = max (L .states) (R .states)
 
--- The marks or the queue are shorter than the larger size.
-abbrev pub short : Lts → Lts → Scratch → Bool
-short L R z = ltb (length (z .marks)) (larger L R) || ltb (length (z .queue)) (larger L R)
+-- So many marks, or so many entries of the queue, are fewer than the larger size.
+abbrev pub short : Lts → Lts → ℕ → ℕ → Bool
+short L R marks queue = ltb marks (larger L R) || ltb queue (larger L R)
 
+abbrev pub too-few : Lts → Lts → ℕ → ℕ → Option Fault
+too-few L R marks queue = cond (short L R marks queue) (Some Short) None
+
+-- The marks or the queue are shorter than the larger size.
 abbrev pub too-short : Lts → Lts → Scratch → Option Fault
-too-short L R z = cond (short L R z) (Some Short) None
+too-short L R z = too-few L R (length (z .marks)) (length (z .queue))
 
 -- Why a judgement is refused, if it is: a model is empty, or the scratch is too short; the first of the two that holds.
 abbrev pub refusal : Lts → Lts → Scratch → Option Fault
@@ -47,7 +51,7 @@ pub record Wiped (n : ℕ) (before after : List ℕ) : Type 0 where
   pub rest : (k : ℕ) → n ≤ k → getD after k 0 ≡ getD before k 0
 
 -- A row of scratch after a call: wiped, or as before where the call was refused.
-abbrev pub Left : Result Verdict Fault → ℕ → List ℕ → List ℕ → Type 0
+abbrev pub Left : {A : Type 0} → Result A Fault → ℕ → List ℕ → List ℕ → Type 0
 Left (Ok _) n before after = Wiped n before after
 Left (Err _) n before after = after ≡ before
 

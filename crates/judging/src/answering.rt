@@ -18,7 +18,7 @@ use pairings::standing::Pairing;
 use transitions::steps::Step;
 
 // Whether t may stay: the step is silent and its target stands with t.
-fn stays<P: Pairing>(pairing: &P, want: Step, t: usize) -> bool
+pub fn stays<P: Pairing>(pairing: &P, want: Step, t: usize) -> bool
     ensures { λ r. ⌜ r ≡ (eqb (want .action) 0 && standing (now (pairing .entry)) (want .target) t) ⌝ }
 {
     want.action == 0 && pairing.stands(want.target as usize, t)

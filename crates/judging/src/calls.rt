@@ -10,7 +10,7 @@ use pairings::standing::Pairing;
 use transitions::verdicts::Verdict;
 
 // Why the models cannot be judged in scratch of these lengths.
-fn unready<L: TransitionSystem, R: TransitionSystem>(
+pub(crate) fn unready<L: TransitionSystem, R: TransitionSystem>(
     left: &L,
     right: &R,
     marks: &[u8],

@@ -3,6 +3,7 @@ mod answering;
 pub mod calls;
 mod pairs;
 mod queries;
+pub mod replies;
 mod roots;
 mod searching;
 mod verdict;

@@ -8,6 +8,10 @@ pub enum Fault {
     NoState,
     // The marks or the queue are shorter than the larger size.
     Short,
+    // The side is neither 0 nor 1.
+    NoSide,
+    // The place holds no step.
+    NoStep,
     // The sheet is blank, or a judged model is empty.
     Blank,
     // The pair stands already.
@@ -25,6 +29,8 @@ impl Fault {
         match self {
             Fault::NoState => 21,
             Fault::Short => 22,
+            Fault::NoSide => 23,
+            Fault::NoStep => 24,
             Fault::Blank => 31,
             Fault::Stands => 32,
             Fault::Missing => 33,

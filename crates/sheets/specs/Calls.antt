@@ -10,7 +10,9 @@ use Rattle.std.specs.declared.option.Option.{Option}
 use Rattle.std.specs.declared.option.Option.the-variants.{Some, None}
 use Rattle.std.specs.declared.result.Result.{Result}
 use Rattle.std.specs.declared.result.Result.the-variants.{Ok, Err}
-use Rattle.judging.specs.Judged.{Scratch, too-short, Judged, Wiped}
+use Rattle.judging.specs.declared.replies.Ask.{Ask}
+use Rattle.judging.specs.Judged.{Scratch, too-few, Judged, Wiped}
+pub use Rattle.judging.specs.Replies.{or-else, in-range, unpaired, unasked}
 use Rattle.pairings.specs.declared.faults.Fault.{Fault}
 use Rattle.pairings.specs.declared.faults.Fault.the-variants.{NoState, Blank, Stands, Missing, Sizes}
 use Rattle.sheets.specs.declared.sheet.Sheet.{Sheet}
@@ -41,9 +43,6 @@ pub record Opened (L R : Lts) (bytes : RefT (List ℕ)) (v : Sheet) : Type 0 whe
 
 abbrev pub blank : ℕ → ℕ → Bool
 blank n m = eqb n 0 || eqb m 0
-
-abbrev pub in-range : ℕ → ℕ → ℕ → ℕ → Bool
-in-range n m s t = ltb s n && ltb t m
 
 abbrev pub is-pair : ℕ → ℕ → Pairing
 is-pair s t x y = eqb x s && eqb y t
@@ -80,26 +79,32 @@ pub record Unpaired (v w : Sheet) (s t : ℕ) (r : Result (Unit {0}) Fault) : Ty
   pub bytes : now (w .bytes) ≡ settled r (now (v .bytes)) (without-bit (now (v .bytes)) (s * columns-of v + t))
   pub kept : Kept v w
 
--- ---- judge and without
-
-abbrev pub or-else : Option Fault → Option Fault → Option Fault
-or-else None o = o
-or-else (Some fault) o = Some fault
+-- ---- judge, without and reply
 
 -- The sheet is blank, or the models' sizes are not its own.
 abbrev pub unfit : ℕ → ℕ → Lts → Lts → Option Fault
 unfit n m L R = cond (blank n m) (Some Blank) (cond (eqb (L .states) n && eqb (R .states) m) None (Some Sizes))
 
--- A state is not below its size, or the pair does not stand.
-abbrev pub unpaired : ℕ → ℕ → Pairing → ℕ → ℕ → Option Fault
-unpaired n m B s t = cond (in-range n m s t) (cond (B s t) None (Some Missing)) (Some NoState)
+-- Why the calls are refused on a sheet of n by m, where the pairs B stand, with so many marks and so long a queue: the first that
+-- holds.
+abbrev pub judge-why : ℕ → ℕ → Lts → Lts → ℕ → ℕ → Option Fault
+judge-why n m L R marks queue = or-else (unfit n m L R) (too-few L R marks queue)
 
--- Why the calls are refused: the first that holds.
+abbrev pub without-why : ℕ → ℕ → Lts → Lts → ℕ → ℕ → Pairing → ℕ → ℕ → Option Fault
+without-why n m L R marks queue B s t = or-else (judge-why n m L R marks queue) (unpaired n m B s t)
+
+abbrev pub reply-why : ℕ → ℕ → Lts → Lts → ℕ → ℕ → Pairing → Ask → Option Fault
+reply-why n m L R marks queue B a = or-else (judge-why n m L R marks queue) (unasked L R B a)
+
+-- The same of a sheet and scratch.
 abbrev pub judge-refusal : Sheet → Lts → Lts → Scratch → Option Fault
-judge-refusal v L R z = or-else (unfit (rows-of v) (columns-of v) L R) (too-short L R z)
+judge-refusal v L R z = judge-why (rows-of v) (columns-of v) L R (length (z .marks)) (length (z .queue))
 
 abbrev pub without-refusal : Sheet → Lts → Lts → Scratch → ℕ → ℕ → Option Fault
-without-refusal v L R z s t = or-else (judge-refusal v L R z) (unpaired (rows-of v) (columns-of v) (standing v) s t)
+without-refusal v L R z s t = without-why (rows-of v) (columns-of v) L R (length (z .marks)) (length (z .queue)) (standing v) s t
+
+abbrev pub reply-refusal : Sheet → Lts → Lts → Scratch → Ask → Option Fault
+reply-refusal v L R z a = reply-why (rows-of v) (columns-of v) L R (length (z .marks)) (length (z .queue)) (standing v) a
 
 -- The verdict with one pair out. The sheet stays, on every way out.
 pub record Judged-without (v w : Sheet) (L R : Lts) (s t : ℕ) (before after : Scratch) (r : Result Verdict Fault) : Type 0 where

@@ -15,3 +15,4 @@ pub mod Repeating
 pub mod Listing
 pub mod Fresh
 pub mod Grouping
+pub mod Replying

@@ -1,5 +1,6 @@
 pub mod Lts
 pub mod Match
+pub mod Reply
 pub mod Made
 pub mod Rules
 pub mod Communications

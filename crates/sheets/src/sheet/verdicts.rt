@@ -1,15 +1,19 @@
 // The judgements of a sheet.
 ghost use mathlib.Core.Path.{_≡_};
 ghost use Rattle.judging.specs.Judged.{Judged, too-short};
-ghost use Rattle.sheets.specs.Calls.{unfit, unpaired, judge-refusal, Judged-without};
+ghost use Rattle.judging.specs.Replies.{Replied};
+ghost use Rattle.sheets.specs.Calls.{unfit, unpaired, judge-refusal, reply-refusal, Judged-without};
 ghost use Rattle.sheets.specs.Sheets.{standing as pairs, rows-of, columns-of};
 use crate::sheet::Sheet;
 use crate::sheet::lifting::judge_without;
 use crate::sheet::standing::SheetPairing;
 use judging::calls::judge;
+use judging::replies::Ask;
+use judging::replies::reply;
 use models::systems::TransitionSystem;
 use pairings::faults::Fault;
 use pairings::standing::Pairing;
+use transitions::replies::Reply;
 use transitions::verdicts::Verdict;
 
 // Why two models cannot be judged in scratch of these lengths.
@@ -101,5 +105,23 @@ impl<'a> Sheet<'a> {
         }
         let size = self.size;
         judge_without(left, right, self.bytes, size, s, t, marks, queue)
+    }
+
+    // The reply to a step. Refused as `judge` is, and then with the first that holds: the side is neither 0 nor 1, a state is not
+    // below its size, the pair does not stand, the place holds no step.
+    pub fn reply<L: TransitionSystem, R: TransitionSystem>(
+        &self,
+        left: &L,
+        right: &R,
+        ask: Ask,
+        marks: &mut [u8],
+        queue: &mut [u16],
+    ) -> Result<Reply, Fault>
+        ensures { λ r. ⌜ Replied (reply-refusal (now (self .entry)) (L·TransitionSystem .meaning (now (left .entry))) (R·TransitionSystem .meaning (now (right .entry))) (record { marks = now (marks .entry); queue = now (queue .entry) }) ask) (L·TransitionSystem .meaning (now (left .entry))) (R·TransitionSystem .meaning (now (right .entry))) (pairs (now (self .entry))) ask (record { marks = now (marks .entry); queue = now (queue .entry) }) (record { marks = now (marks .exit); queue = now (queue .exit) }) r ⌝ }
+    {
+        if let Some(fault) = self.first_unfit(left, right) {
+            return Err(fault);
+        }
+        reply(left, right, self, ask, marks, queue)
     }
 }

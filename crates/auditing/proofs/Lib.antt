@@ -1,0 +1,3 @@
+pub mod Lending
+pub mod Folding
+pub mod Keeping
