@@ -26,7 +26,7 @@ fn print_table(rt: &LibcRuntime, ends: &[u16], steps: &[Step], n: Counts) -> io:
             println!(rt, "    The text was refused with {number}.")?;
         }
     }
-    println!(rt, "15. The step `s,1,1,3` is the basket's own: its line `e,0,1,1` lets variable 0 do action 1 and become variable 1.")?;
+    println!(rt, "18. The step `s,1,1,3` is the basket's own: its line `e,0,1,1` lets variable 0 do action 1 and become variable 1.")?;
     println!(rt, "    The step `s,2,1,4` is the rule of a merge for its left side alone: the left basket sells, the right one stays.")
 }
 
@@ -38,12 +38,12 @@ fn unfold_till(rt: &LibcRuntime, lines: &[JoinLine], equations: &[Equation], fil
         Ok(n) => {
             let states = n.terms.saturating_add(1);
             let count = n.steps;
-            println!(rt, "14. Unfolded it by the rules of process terms: {states} states with the ended process, {count} steps. Its table:")?;
+            println!(rt, "17. Unfolded it by the rules of process terms: {states} states with the ended process, {count} steps. Its table:")?;
             print_table(rt, &ends, &steps, n)
         }
         Err(refusal) => {
             let number = refusal.number();
-            println!(rt, "14. The unfolding was refused with {number}.")
+            println!(rt, "17. The unfolding was refused with {number}.")
         }
     }
 }
@@ -54,13 +54,13 @@ pub fn read_till(rt: &LibcRuntime) -> io::Result<()> {
     let mut terms = [Term::Action(0); 8];
     match read(TILL, &mut lines, &mut equations, &mut terms) {
         Ok(n) => {
-            println!(rt, "13. Read a till from text: {} variables, {} communication lines, {} equation lines, {} terms, start term {}.", n.variables, n.lines, n.equations, n.terms, n.start)?;
+            println!(rt, "16. Read a till from text: {} variables, {} communication lines, {} equation lines, {} terms, start term {}.", n.variables, n.lines, n.equations, n.terms, n.start)?;
             unfold_till(rt, &lines[0..n.lines.min(4)], &equations[0..n.equations.min(8)], &terms[0..n.terms.min(8)], n.start)
         }
         Err(refusal) => {
             let number = refusal.fault.number();
             let line = refusal.line;
-            println!(rt, "13. The text was refused with {number} at line {line}.")
+            println!(rt, "16. The text was refused with {number} at line {line}.")
         }
     }
 }

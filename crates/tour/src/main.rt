@@ -1,11 +1,13 @@
 // The oversold morning, told in numbered notes: a till that holds a booking's cap against each basket sells on where the house
 // rule stops; the comparer names the step; a till that holds the cap against the booking matches the rule; a till is read from
 // text and unfolded.
+mod checking;
 mod comparing;
 mod from_text;
 mod selling;
 mod tills;
 
+use crate::checking::check_list;
 use crate::comparing::Comparison;
 use crate::comparing::compare;
 use crate::from_text::read_till;
@@ -59,7 +61,8 @@ fn corrected(rt: &LibcRuntime, no_lines: &[JoinLine], lines: &[JoinLine]) -> io:
         rt,
         "    counter. It is the baskets merged with that counter, and what either does alone is blocked."
     )?;
-    compare(rt, 11, &rule(), &till, Comparison { booked: true })
+    compare(rt, 11, &rule(), &till, Comparison { booked: true })?;
+    check_list(rt, &rule(), &till)
 }
 
 fn main(rt: LibcRuntime) -> io::Result<()> {

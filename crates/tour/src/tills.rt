@@ -22,6 +22,21 @@ pub const BASKETS: u64 = 0b11_0000;
 
 pub const BOOKING: u64 = 0b1_1000_0000;
 
+// The gate admits (action 9) and lets out (action 11) one guest at a time; a sale joins with an admission.
+const ADMIT: u8 = 9;
+const LET_OUT: u8 = 11;
+const SALE_AT_GATE: u8 = 10;
+
+pub const GATE_LINES: [JoinLine; 1] = [JoinLine {
+    a: SALE,
+    b: ADMIT,
+    joint: SALE_AT_GATE,
+}];
+
+pub fn gate() -> Counter {
+    Counter::new(1, ADMIT, LET_OUT)
+}
+
 pub fn rule() -> Counter {
     Counter::new(CAP, SALE, REFUND)
 }
