@@ -102,7 +102,7 @@ fn reply_lent<L: TransitionSystem, R: TransitionSystem>(
 }
 
 // Makes the call, and tells its answer.
-pub fn make<L: TransitionSystem, R: TransitionSystem>(
+pub(crate) fn make<L: TransitionSystem, R: TransitionSystem>(
     sheet: &mut Sheet,
     call: &Call<'_, L, R>,
     marks: &mut [u8],

@@ -18,7 +18,7 @@ use pairings::standing::Pairing;
 use transitions::steps::Step;
 
 // Whether t may stay: the step is silent and its target stands with t.
-pub fn stays<P: Pairing>(pairing: &P, want: Step, t: usize) -> bool
+pub(crate) fn stays<P: Pairing>(pairing: &P, want: Step, t: usize) -> bool
     ensures { λ r. ⌜ r ≡ (eqb (want .action) 0 && standing (now (pairing .entry)) (want .target) t) ⌝ }
 {
     want.action == 0 && pairing.stands(want.target as usize, t)
@@ -79,7 +79,7 @@ fn answers_place<L: TransitionSystem, R: TransitionSystem, P: Pairing>(
 }
 
 // The lowest place of s whose step t does not answer.
-pub fn first_unanswered<L: TransitionSystem, R: TransitionSystem, P: Pairing>(
+pub(crate) fn first_unanswered<L: TransitionSystem, R: TransitionSystem, P: Pairing>(
     left: &L,
     right: &R,
     pairing: &P,
@@ -103,7 +103,7 @@ pub fn first_unanswered<L: TransitionSystem, R: TransitionSystem, P: Pairing>(
 }
 
 // Whether t answers the end of s, if s may end.
-pub fn answers_end<L: TransitionSystem, R: TransitionSystem, P: Pairing>(
+pub(crate) fn answers_end<L: TransitionSystem, R: TransitionSystem, P: Pairing>(
     left: &L,
     right: &R,
     pairing: &P,

@@ -119,7 +119,7 @@ fn judge_row<L: TransitionSystem, R: TransitionSystem, P: Pairing>(
 }
 
 // The first broken condition of all standing pairs.
-pub fn judge_rows<L: TransitionSystem, R: TransitionSystem, P: Pairing>(
+pub(crate) fn judge_rows<L: TransitionSystem, R: TransitionSystem, P: Pairing>(
     left: &L,
     right: &R,
     pairing: &P,

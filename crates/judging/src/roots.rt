@@ -36,7 +36,7 @@ fn answers_root_place<L: TransitionSystem, R: TransitionSystem, P: Pairing>(
 }
 
 // The lowest place of the left start whose step is not answered.
-pub fn first_unrooted<L: TransitionSystem, R: TransitionSystem, P: Pairing>(
+pub(crate) fn first_unrooted<L: TransitionSystem, R: TransitionSystem, P: Pairing>(
     left: &L,
     right: &R,
     pairing: &P,

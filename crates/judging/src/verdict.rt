@@ -46,7 +46,7 @@ fn judge_clean<L: TransitionSystem, R: TransitionSystem, P: Pairing>(
 }
 
 // The verdict, in scratch of the right length, whatever it holds.
-pub fn judge_in<L: TransitionSystem, R: TransitionSystem, P: Pairing>(
+pub(crate) fn judge_in<L: TransitionSystem, R: TransitionSystem, P: Pairing>(
     left: &L,
     right: &R,
     pairing: &P,

@@ -6,7 +6,7 @@ ghost use Rattle.judging.specs.Judged.{Wiped};
 ghost use Rattle.sheets.specs.Bits.{with-bit, without-bit};
 
 // Sets the first n bytes to 0.
-pub fn clear(bytes: &mut [u8], n: usize)
+pub(crate) fn clear(bytes: &mut [u8], n: usize)
     requires { ⌜ n ≤ length (now bytes) ⌝ }
     ensures { λ _. ⌜ Wiped n (now (bytes .entry)) (now (bytes .exit)) ⌝ }
 {
@@ -16,7 +16,7 @@ pub fn clear(bytes: &mut [u8], n: usize)
 }
 
 // Puts bit i in.
-pub fn put_bit(bytes: &mut [u8], i: usize)
+pub(crate) fn put_bit(bytes: &mut [u8], i: usize)
     requires { ⌜ i / 8 < length (now bytes) ⌝ }
     ensures { λ _. ⌜ now (bytes .exit) ≡ with-bit (now (bytes .entry)) i ⌝ }
 {
@@ -24,7 +24,7 @@ pub fn put_bit(bytes: &mut [u8], i: usize)
 }
 
 // Takes bit i out.
-pub fn take_bit(bytes: &mut [u8], i: usize)
+pub(crate) fn take_bit(bytes: &mut [u8], i: usize)
     requires { ⌜ i / 8 < length (now bytes) ⌝ }
     ensures { λ _. ⌜ now (bytes .exit) ≡ without-bit (now (bytes .entry)) i ⌝ }
 {

@@ -24,7 +24,9 @@ pub const BOOKING: u64 = 0b1_1000_0000;
 
 // The gate admits (action 9) and lets out (action 11) one guest at a time; a sale joins with an admission.
 const ADMIT: u8 = 9;
+
 const LET_OUT: u8 = 11;
+
 const SALE_AT_GATE: u8 = 10;
 
 pub const GATE_LINES: [JoinLine; 1] = [JoinLine {

@@ -78,7 +78,7 @@ fn judge_with<L: TransitionSystem, R: TransitionSystem>(
 }
 
 // The judgement with the pair (s, t) out.
-pub fn judge_without<L: TransitionSystem, R: TransitionSystem>(
+pub(crate) fn judge_without<L: TransitionSystem, R: TransitionSystem>(
     left: &L,
     right: &R,
     bytes: &mut [u8],

@@ -10,7 +10,7 @@ use crate::size::Size;
 use pairings::standing::Pairing;
 
 // Whether the pair (s, t) stands in the bytes of a sheet that keeps these sizes.
-pub fn stands_in(bytes: &[u8], size: Size, s: usize, t: usize) -> bool
+pub(crate) fn stands_in(bytes: &[u8], size: Size, s: usize, t: usize) -> bool
     ensures { λ r. ⌜ r ≡ stood size (now (bytes .entry)) s t ⌝ }
 {
     let size = size.within(bytes.len());
@@ -34,7 +34,13 @@ fn gap(bytes: &[u8], i: usize) -> usize
 }
 
 // The lowest right state from `from` on and below `below` that stands with s. The rest of a byte that is 0 is passed at once.
-pub fn next_in(bytes: &[u8], size: Size, s: usize, from: usize, below: usize) -> Option<usize>
+pub(crate) fn next_in(
+    bytes: &[u8],
+    size: Size,
+    s: usize,
+    from: usize,
+    below: usize,
+) -> Option<usize>
     ensures { λ r. ⌜ Next (stood size (now (bytes .entry)) s) from below r ⌝ }
 {
     let fitted = size.within(bytes.len());
