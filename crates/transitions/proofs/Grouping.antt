@@ -79,7 +79,7 @@ visible-names : (line : JoinLine) (a b c : ℕ) → Visible-line line → Names 
 visible-names line a b c v (inl (e, f)) g = ((omega arith, omega arith), (omega arith, omega arith), (omega arith, omega arith))
 visible-names line a b c v (inr (e, f)) g = ((omega arith, omega arith), (omega arith, omega arith), (omega arith, omega arith))
 
-listed-visible : (lines : List JoinLine) → Acceptable lines → (a b c : ℕ) → listed-joins lines a b ≡ Some c → Visible a × Visible b × Visible c
+pub listed-visible : (lines : List JoinLine) → Acceptable lines → (a b c : ℕ) → listed-joins lines a b ≡ Some c → Visible a × Visible b × Visible c
 listed-visible lines ok a b c e =
     let s = joined-said lines a b c e in visible-names (line-at lines (s .place)) a b c (ok .visible (s .place) (s .within)) (s .names) (s .joint)
 
