@@ -1,0 +1,3 @@
+// Tests of lists of calls.
+#[cfg(test)]
+mod lists;
