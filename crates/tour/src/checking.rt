@@ -1,16 +1,10 @@
-// A list of calls on a new sheet, refused ones included, and what becomes of the match when both models are changed alike.
+// Calls on a new sheet, refused ones included, and what becomes of the match when both models are changed alike.
 use crate::tills::GATE_LINES;
 use crate::tills::REFUND;
 use crate::tills::gate;
 use actions::listed::Listed;
 use actions::listed::joining::ListedCommunication;
 use actions::sets::ActionSet;
-use auditing::audits::Question;
-use auditing::audits::Said;
-use auditing::audits::audit;
-use auditing::calls::Answer;
-use auditing::calls::Call;
-use auditing::calls::Lent;
 use judging::calls::judge;
 use judging::replies::Ask;
 use models::counters::counting::CounterSystem;
@@ -30,49 +24,85 @@ use std::io;
 use transitions::replies::Reply;
 use transitions::verdicts::Verdict;
 
-const CALLS: usize = 13;
-
-const ALL: Lent = Lent {
-    marks: 64,
-    queue: 64,
-};
-
-const FEW: Lent = Lent {
-    marks: 10,
-    queue: 64,
-};
-
-fn tell_verdict(rt: &LibcRuntime, call: usize, verdict: Verdict) -> io::Result<()> {
-    let figures = verdict.figures();
-    match verdict {
-        Verdict::Matches => println!(rt, "    call {call}: a match"),
-        Verdict::Fails(_) => println!(
-            rt,
-            "    call {call}: no match, kind {} at states {} and {}, side {}, place {}",
-            figures.kind, figures.left, figures.right, figures.side, figures.place
-        ),
-    }
-}
-
-fn tell_answer(rt: &LibcRuntime, call: usize, answer: Answer) -> io::Result<()> {
+fn tell_change(rt: &LibcRuntime, call: &str, answer: Result<(), Fault>) -> io::Result<()> {
     match answer {
-        Answer::Done => println!(rt, "    call {call}: done"),
-        Answer::Refused(fault) => println!(rt, "    call {call}: refused with {}", fault.number()),
-        Answer::Judged(verdict) => tell_verdict(rt, call, verdict),
-        Answer::Replied(Reply::Stays) => println!(rt, "    call {call}: the reply is to stay"),
-        Answer::Replied(Reply::Moves(state, place)) => println!(
-            rt,
-            "    call {call}: the reply moves from state {state} at place {place}"
-        ),
-        Answer::Replied(Reply::Nothing) => println!(rt, "    call {call}: no reply"),
+        Ok(_) => println!(rt, "    {call}: done"),
+        Err(fault) => println!(rt, "    {call}: refused with {}", fault.number()),
     }
 }
 
-fn tell_answers(rt: &LibcRuntime, answers: &[Answer]) -> io::Result<()> {
-    for (i, answer) in answers.iter().enumerate() {
-        tell_answer(rt, i.saturating_add(1), *answer)?;
+fn tell_verdict(rt: &LibcRuntime, call: &str, answer: Result<Verdict, Fault>) -> io::Result<()> {
+    match answer {
+        Ok(Verdict::Matches) => println!(rt, "    {call}: a match"),
+        Ok(Verdict::Fails(counterexample)) => {
+            let f = Verdict::Fails(counterexample).figures();
+            println!(
+                rt,
+                "    {call}: no match, kind {} at states {} and {}, side {}, place {}",
+                f.kind, f.left, f.right, f.side, f.place
+            )
+        }
+        Err(fault) => println!(rt, "    {call}: refused with {}", fault.number()),
     }
-    Ok(())
+}
+
+fn tell_reply(rt: &LibcRuntime, call: &str, answer: Result<Reply, Fault>) -> io::Result<()> {
+    match answer {
+        Ok(Reply::Stays) => println!(rt, "    {call}: it stays"),
+        Ok(Reply::Moves(state, place)) => println!(
+            rt,
+            "    {call}: it moves, from state {state} at place {place}"
+        ),
+        Ok(Reply::Nothing) => println!(rt, "    {call}: nothing"),
+        Err(fault) => println!(rt, "    {call}: refused with {}", fault.number()),
+    }
+}
+
+// Pairs by the passes sold, and among them some calls that are refused.
+fn change_pairs(rt: &LibcRuntime, sheet: &mut Sheet) -> io::Result<()> {
+    tell_change(rt, "pair 0 and 0", sheet.pair(0, 0))?;
+    tell_change(rt, "pair 0 and 0 once more", sheet.pair(0, 0))?;
+    tell_change(rt, "pair 3 and 0", sheet.pair(3, 0))?;
+    tell_change(rt, "unpair 2 and 8", sheet.unpair(2, 8))?;
+    tell_change(rt, "pair 1 and 4", sheet.pair(1, 4))?;
+    tell_change(rt, "pair 1 and 10", sheet.pair(1, 10))?;
+    tell_change(rt, "pair 2 and 8", sheet.pair(2, 8))?;
+    tell_change(rt, "pair 2 and 14", sheet.pair(2, 14))?;
+    tell_change(rt, "pair 2 and 20", sheet.pair(2, 20))
+}
+
+// Verdicts and a reply.
+fn ask_sheet(
+    rt: &LibcRuntime,
+    rule: &impl TransitionSystem,
+    till: &impl TransitionSystem,
+    sheet: &mut Sheet,
+) -> io::Result<()> {
+    let mut few = [0u8; 10];
+    let mut marks = [0u8; 32];
+    let mut queue = [0u16; 32];
+    let ask = Ask {
+        side: 0,
+        s: 0,
+        t: 0,
+        place: 0,
+    };
+    tell_verdict(
+        rt,
+        "judge with 10 marks",
+        sheet.judge(rule, till, &mut few, &mut queue),
+    )?;
+    tell_verdict(rt, "judge", sheet.judge(rule, till, &mut marks, &mut queue))?;
+    tell_verdict(
+        rt,
+        "without 2 and 14",
+        sheet.without(rule, till, 2, 14, &mut marks, &mut queue),
+    )?;
+    tell_reply(
+        rt,
+        "the till's reply to the rule's first sale",
+        sheet.reply(rule, till, ask, &mut marks, &mut queue),
+    )
 }
 
 // Judges two models under a pairing once more.
@@ -122,88 +152,19 @@ fn change_both(
     )
 }
 
-// The calls: pairs by the passes sold, and among them some that are refused.
-fn calls_on<'a, L, R>(rule: &'a L, till: &'a R) -> [Call<'a, L, R>; CALLS] {
-    [
-        Call::Pair { s: 0, t: 0 },
-        Call::Pair { s: 0, t: 0 },
-        Call::Pair { s: 3, t: 0 },
-        Call::Unpair { s: 2, t: 8 },
-        Call::Pair { s: 1, t: 4 },
-        Call::Pair { s: 1, t: 10 },
-        Call::Pair { s: 2, t: 8 },
-        Call::Pair { s: 2, t: 14 },
-        Call::Pair { s: 2, t: 20 },
-        Call::Judge {
-            left: rule,
-            right: till,
-            lent: FEW,
-        },
-        Call::Judge {
-            left: rule,
-            right: till,
-            lent: ALL,
-        },
-        Call::Without {
-            left: rule,
-            right: till,
-            s: 2,
-            t: 14,
-            lent: ALL,
-        },
-        Call::Reply {
-            left: rule,
-            right: till,
-            ask: Ask {
-                side: 0,
-                s: 0,
-                t: 0,
-                place: 0,
-            },
-            lent: ALL,
-        },
-    ]
-}
-
-pub fn check_list<L: TransitionSystem, R: TransitionSystem>(
+// The calls one by one, each starting from what the one before it left.
+pub fn check_sheet(
     rt: &LibcRuntime,
-    rule: &L,
-    till: &R,
+    rule: &impl TransitionSystem,
+    till: &impl TransitionSystem,
 ) -> io::Result<()> {
     let mut bytes = [0u8; 16];
-    let mut marks = [0u8; 64];
-    let mut queue = [0u16; 64];
-    let mut answers = [Answer::Done; CALLS];
-    let mut said = Said {
-        verdict: Err(Fault::Blank),
-        reply: Err(Fault::Blank),
-    };
-    let calls = calls_on(rule, till);
-    let question = Question {
-        left: rule,
-        right: till,
-        ask: Ask {
-            side: 0,
-            s: 0,
-            t: 0,
-            place: 0,
-        },
-    };
     println!(
         rt,
-        "13. A new sheet for the rule and the corrected till, and a list of {CALLS} calls, some of them refused:"
+        "13. A new sheet for the rule and the corrected till, and calls on it, some of them refused:"
     )?;
-    let sheet = audit(
-        &mut bytes,
-        rule,
-        till,
-        &calls,
-        &mut answers,
-        &question,
-        &mut marks,
-        &mut queue,
-        &mut said,
-    );
-    tell_answers(rt, &answers)?;
+    let mut sheet = Sheet::open(&mut bytes, rule, till);
+    change_pairs(rt, &mut sheet)?;
+    ask_sheet(rt, rule, till, &mut sheet)?;
     change_both(rt, rule, till, &sheet)
 }

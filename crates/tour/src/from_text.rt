@@ -10,8 +10,8 @@ use transitions::steps::Step;
 use unfolding::counts::Counts;
 use unfolding::unfolds::unfold;
 
-// A basket sells a pass (action 1) and takes it back (action 2); the till is two such baskets side by side.
-const TILL: &[u8; 44] = b"m,2\ne,0,1,1\ne,1,2,0\nt,1,v,0,0\nt,2,m,1,1\nz,2\n";
+// A basket sells a pass (action 3) and takes it back (action 6); the till is two such baskets side by side.
+const TILL: &[u8; 44] = b"m,2\ne,0,3,1\ne,1,6,0\nt,1,v,0,0\nt,2,m,1,1\nz,2\n";
 
 fn print_table(rt: &LibcRuntime, ends: &[u16], steps: &[Step], n: Counts) -> io::Result<()> {
     let table = Table::new(ends, steps, n);
@@ -28,11 +28,11 @@ fn print_table(rt: &LibcRuntime, ends: &[u16], steps: &[Step], n: Counts) -> io:
     }
     println!(
         rt,
-        "18. The step `s,1,1,3` is the basket's own: its line `e,0,1,1` lets variable 0 do action 1 and become variable 1."
+        "18. The step `s,1,3,3` is the basket's own: its line `e,0,3,1` lets variable 0 do action 3 and become variable 1."
     )?;
     println!(
         rt,
-        "    The step `s,2,1,4` is the rule of a merge for its left side alone: the left basket sells, the right one stays."
+        "    The step `s,2,3,4` is the rule of a merge for its left side alone: the left basket sells, the right one stays."
     )
 }
 

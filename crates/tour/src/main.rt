@@ -7,34 +7,26 @@ mod from_text;
 mod selling;
 mod tills;
 
-use crate::checking::check_list;
+use crate::checking::check_sheet;
 use crate::comparing::Comparison;
 use crate::comparing::compare;
 use crate::from_text::read_till;
 use crate::selling::describe;
 use crate::selling::look_after;
 use crate::selling::sell_out;
-use crate::tills::BASKETS;
-use crate::tills::BOOKING;
-use crate::tills::basket;
-use crate::tills::booking;
-use crate::tills::partners;
+use crate::tills::booked_till;
 use crate::tills::rule;
-use actions::listed::Listed;
-use actions::listed::joining::ListedCommunication;
-use actions::sets::ActionSet;
-use models::blocking::Blocked;
+use crate::tills::till;
+use actions::ports::PortsCommunication;
 use models::blocking::BlockedSystem;
 use models::counters::counting::CounterSystem;
-use models::merging::Merge;
 use models::merging::joint_steps::MergeSystem;
 use std::io;
-use transitions::lines::JoinLine;
 
 // The till that counts each basket by itself.
-fn oversold(rt: &LibcRuntime, no_lines: &[JoinLine]) -> io::Result<()> {
+fn oversold(rt: &LibcRuntime) -> io::Result<()> {
     let rule = rule();
-    let till = Merge::new(rule, rule, Listed::new(no_lines));
+    let till = till();
     describe(rt, &rule, &till)?;
     let allowed = sell_out(rt, 3, "rule", &rule)?;
     let sold = sell_out(rt, 4, "till", &till)?;
@@ -48,11 +40,10 @@ fn oversold(rt: &LibcRuntime, no_lines: &[JoinLine]) -> io::Result<()> {
     compare(rt, 8, &rule, &till, Comparison { booked: false })
 }
 
-// The till whose baskets may sell only together with the booking.
-fn corrected(rt: &LibcRuntime, no_lines: &[JoinLine], lines: &[JoinLine]) -> io::Result<()> {
-    let baskets = Merge::new(basket(), basket(), Listed::new(no_lines));
-    let merged = Merge::new(baskets, booking(), Listed::new(lines));
-    let till = Blocked::new(merged, ActionSet::new(BASKETS | BOOKING));
+// The till whose baskets sell only together with the booking.
+fn corrected(rt: &LibcRuntime) -> io::Result<()> {
+    let rule = rule();
+    let till = booked_till();
     println!(
         rt,
         "10. The corrected till holds the cap against the booking: a basket sells only together with the booking's own"
@@ -61,15 +52,13 @@ fn corrected(rt: &LibcRuntime, no_lines: &[JoinLine], lines: &[JoinLine]) -> io:
         rt,
         "    counter. It is the baskets merged with that counter, and what either does alone is blocked."
     )?;
-    compare(rt, 11, &rule(), &till, Comparison { booked: true })?;
-    check_list(rt, &rule(), &till)
+    compare(rt, 11, &rule, &till, Comparison { booked: true })?;
+    check_sheet(rt, &rule, &till)
 }
 
 fn main(rt: LibcRuntime) -> io::Result<()> {
     println!(rt, "The oversold morning: one booking, two baskets.")?;
-    let none: [JoinLine; 0] = [];
-    oversold(&rt, &none)?;
-    let lines = partners();
-    corrected(&rt, &none, &lines)?;
+    oversold(&rt)?;
+    corrected(&rt)?;
     read_till(&rt)
 }
