@@ -1,3 +1,0 @@
-// Tests of lists of calls.
-#[cfg(test)]
-mod lists;
