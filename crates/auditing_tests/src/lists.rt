@@ -1,4 +1,6 @@
 // Lists of mixed calls over counters, their answers written out by hand.
+use crate::small::Small;
+use crate::small::SmallSystem;
 use auditing::audits::Question;
 use auditing::audits::Said;
 use auditing::audits::audit;
@@ -6,8 +8,6 @@ use auditing::calls::Answer;
 use auditing::calls::Call;
 use auditing::calls::Lent;
 use judging::replies::Ask;
-use models::counters::Counter;
-use models::counters::counting::CounterSystem;
 use pairings::faults::Fault;
 use std::test::*;
 use transitions::replies::Reply;
@@ -60,36 +60,103 @@ fn ask(side: usize, s: usize, t: usize, place: usize) -> Ask {
     Ask { side, s, t, place }
 }
 
-#[test]
-fn two_counters() -> Result<(), Fail> {
-    let one = Counter::new(1, 1, 2);
-    let two = Counter::new(2, 1, 2);
-    let all = Lent {
-        marks: 2,
-        queue: 2,
-    };
-    let few = Lent {
-        marks: 2,
-        queue: 1,
-    };
+// A model of two states and one of three, first a missing start, then half a match, then a match.
+fn mixed<'a>(
+    one: &'a Small,
+    two: &'a Small,
+    answers: &mut [Answer],
+    marks: &mut [u8],
+    queue: &mut [u16],
+    said: &mut Said,
+) {
+    let all = Lent { marks: 2, queue: 2 };
+    let few = Lent { marks: 2, queue: 1 };
     let calls = [
-        Call::Judge { left: &one, right: &one, lent: all },
+        Call::Judge {
+            left: one,
+            right: one,
+            lent: all,
+        },
         Call::Pair { s: 0, t: 0 },
         Call::Pair { s: 0, t: 0 },
         Call::Pair { s: 2, t: 0 },
         Call::Unpair { s: 1, t: 1 },
-        Call::Judge { left: &one, right: &one, lent: all },
-        Call::Reply { left: &one, right: &one, ask: ask(0, 0, 0, 0), lent: all },
+        Call::Judge {
+            left: one,
+            right: one,
+            lent: all,
+        },
+        Call::Reply {
+            left: one,
+            right: one,
+            ask: ask(0, 0, 0, 0),
+            lent: all,
+        },
         Call::Pair { s: 1, t: 1 },
-        Call::Judge { left: &one, right: &one, lent: all },
-        Call::Reply { left: &one, right: &one, ask: ask(0, 0, 0, 0), lent: all },
-        Call::Reply { left: &one, right: &one, ask: ask(2, 0, 0, 0), lent: all },
-        Call::Reply { left: &one, right: &one, ask: ask(0, 0, 0, 1), lent: all },
-        Call::Judge { left: &one, right: &one, lent: few },
-        Call::Judge { left: &two, right: &one, lent: all },
-        Call::Without { left: &one, right: &one, s: 1, t: 1, lent: all },
+        Call::Judge {
+            left: one,
+            right: one,
+            lent: all,
+        },
+        Call::Reply {
+            left: one,
+            right: one,
+            ask: ask(0, 0, 0, 0),
+            lent: all,
+        },
+        Call::Reply {
+            left: one,
+            right: one,
+            ask: ask(2, 0, 0, 0),
+            lent: all,
+        },
+        Call::Reply {
+            left: one,
+            right: one,
+            ask: ask(0, 0, 0, 1),
+            lent: all,
+        },
+        Call::Judge {
+            left: one,
+            right: one,
+            lent: few,
+        },
+        Call::Judge {
+            left: two,
+            right: one,
+            lent: all,
+        },
+        Call::Without {
+            left: one,
+            right: one,
+            s: 1,
+            t: 1,
+            lent: all,
+        },
     ];
     let mut bytes = [255u8; 1];
+    let question = Question {
+        left: one,
+        right: one,
+        ask: ask(1, 1, 1, 1),
+    };
+    let _sheet = audit(
+        &mut bytes,
+        one,
+        one,
+        &calls,
+        answers,
+        &question,
+        marks,
+        queue,
+        said,
+    );
+}
+
+#[test]
+fn two_counters() -> Result<(), Fail> {
+    let one = Small { three: false };
+    let two = Small { three: true };
     let mut answers = [Answer::Done; 15];
     let mut marks = [7u8; 3];
     let mut queue = [7u16; 3];
@@ -97,12 +164,7 @@ fn two_counters() -> Result<(), Fail> {
         verdict: Err(Fault::Blank),
         reply: Err(Fault::Blank),
     };
-    let question = Question {
-        left: &one,
-        right: &one,
-        ask: ask(1, 1, 1, 1),
-    };
-    let _sheet = audit(&mut bytes, &one, &one, &calls, &mut answers, &question, &mut marks, &mut queue, &mut said);
+    mixed(&one, &two, &mut answers, &mut marks, &mut queue, &mut said);
     check_eq(figure(answers[0]), 101).note("the start pair is missing")?;
     check_eq(figure(answers[1]), 0)?;
     check_eq(figure(answers[2]), 32)?;
