@@ -90,8 +90,7 @@ fn set_of(bytes: &[u8]) -> Option<u64>
 
 // The number in a token that is marked as one.
 fn number_in(t: Token) -> Option<u32>
-    requires { ⌜ Is-number t ⌝ }
-    ensures { λ r. ⌜ value-of (t .entry) ≡ r ⌝ }
+    ensures { λ r. ⌜ (Is-number (t .entry) → value-of (t .entry) ≡ r) ⌝ }
 {
     match t {
         Token::Number(bytes) => number_of(bytes),
@@ -116,8 +115,7 @@ fn value_in(t: Token) -> Option<u64>
 
 // What a line of the form says, if each field is a number or a set.
 pub fn said_of(form: Form) -> Option<Said>
-    requires { ⌜ Marked form ⌝ }
-    ensures { λ r. ⌜ values (shape-of (form .entry)) ≡ r ⌝ }
+    ensures { λ r. ⌜ (Marked (form .entry) → values (shape-of (form .entry)) ≡ r) ⌝ }
 {
     Some(
         match form {
