@@ -1,4 +1,6 @@
 // Tests of lists of calls, and a model for them.
+#![tactic(auto)]
+
 #[cfg(test)]
 mod lists;
 pub mod small;

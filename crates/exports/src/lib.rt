@@ -1,5 +1,7 @@
 // The calls of this repository for a program in another language. Rows of numbers and of plain structs are lent by the caller, who
 // sees in them what each call left behind.
+#![tactic(auto)]
+
 mod answers;
 mod asking;
 mod building;

@@ -1,4 +1,6 @@
 // The judge: whether the standing pairs of two models are a match, and if not, the first condition that is broken.
+#![tactic(auto)]
+
 mod answering;
 pub mod calls;
 mod pairs;

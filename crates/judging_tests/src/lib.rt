@@ -1,4 +1,6 @@
 // Tests of the judge and of sheets.
+#![tactic(auto)]
+
 #[cfg(test)]
 mod piles;
 #[cfg(test)]

@@ -1,4 +1,6 @@
 // The model file: what its text may be, the tables that it fills, and why it is refused.
+#![tactic(auto)]
+
 pub mod answers;
 mod entries;
 pub mod faults;

@@ -1,4 +1,6 @@
 // Models: the trait that every transition system answers, and the kinds that there are.
+#![tactic(auto)]
+
 pub mod blocking;
 pub mod counters;
 pub mod following;

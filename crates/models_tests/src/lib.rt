@@ -1,4 +1,6 @@
 // Tests of the models, their limits and the communications.
+#![tactic(auto)]
+
 #[cfg(test)]
 mod communications;
 #[cfg(test)]

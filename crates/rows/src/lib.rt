@@ -1,4 +1,6 @@
 // Lists of entries: the search for an entry that is the same as another, the question whether all differ, and clearing.
+#![tactic(auto)]
+
 ghost use Rattle.std.specs.Prelude.{◌≡◌, ℕ, Bool, true, Decides, slice_index_or};
 ghost use Rattle.rows.specs.Found.{Differ, Found};
 
@@ -18,7 +20,7 @@ pub trait Same {
 
 // The lowest place whose entry is the same as x.
 pub fn find_same<T: Same>(entries: &[T], x: &T) -> Option<usize>
-    ensures { Found same entries.now x.now result }
+    ensures { Found T.same entries.now x.now result }
 {
     for (i, entry) in entries.iter().enumerate() {
         if entry.is_same(x) {
@@ -30,7 +32,7 @@ pub fn find_same<T: Same>(entries: &[T], x: &T) -> Option<usize>
 
 // Whether no entry is the same as an earlier one.
 pub fn all_differ<T: Same>(entries: &[T]) -> bool
-    ensures { Decides result (Differ same entries.now) }
+    ensures { Decides result (Differ T.same entries.now) }
 {
     for k in 0..entries.len() {
         if find_same(&entries[0..k], &entries[k]).is_some() {

@@ -1,4 +1,6 @@
 // Sheets of pairs over lent bytes, and their calls.
+#![tactic(auto)]
+
 mod bits;
 pub mod sheet;
 mod size;

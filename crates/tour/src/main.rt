@@ -1,6 +1,8 @@
 // The oversold morning, told in numbered notes: a till that holds a booking's cap against each basket sells on where the house
 // rule stops; the comparer names the step; a till that holds the cap against the booking matches the rule; a till is read from
 // text and unfolded.
+#![tactic(auto)]
+
 mod checking;
 mod comparing;
 mod from_text;

@@ -1,4 +1,6 @@
 // Finite transition systems as mathematics, the values that speak of them, and the functions that name the theorems.
+#![tactic(auto)]
+
 pub mod lines;
 pub mod replies;
 pub mod steps;

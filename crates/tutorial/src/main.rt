@@ -1,4 +1,6 @@
 // The program of docs/TUTORIAL.md: a house rule and two tills, read from text, unfolded, paired and judged.
+#![tactic(auto)]
+
 mod loading;
 
 use crate::loading::{Room, load};

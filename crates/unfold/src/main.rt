@@ -1,5 +1,7 @@
 // Reads model.txt and prints its table: a line `n,states,start,steps`, and then `s,state,action,target` for each step. A refusal
 // prints `r,number,line`, and says why on standard error.
+#![tactic(auto)]
+
 mod explaining;
 
 use crate::explaining::explain;

@@ -1,4 +1,6 @@
 // Nine worked runs, proved as one table: files with their tables, verdicts, replies and refusals.
+#![tactic(auto)]
+
 ghost use Rattle.std.specs.Prelude.{◌≡◌, length};
 ghost use Rattle.worked.specs.Worked.{runs, WorkedRuns};
 

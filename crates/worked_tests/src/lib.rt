@@ -1,4 +1,6 @@
 // The worked runs through the calls: read, unfold, the table and its text, the sheet, the judge and replies.
+#![tactic(auto)]
+
 #[cfg(test)]
 mod answers;
 #[cfg(test)]

@@ -3,7 +3,7 @@ use Rattle.actions.proofs.acceptance.is_acceptable.Goals as goal
 
 pub returns : goal.returns
 returns c =
-    let once = c.if-not-names-once.ensures.0 refl in (
-      λ e. record { few = c.if-lines-gt32.false; visible = c.if-not-all-visible.ensures.0 refl; once = once; associative = (c.is-associative.ensures once).0 e },
-      λ ok. (c.is-associative.ensures once).1 ok.associative,
+    let once = c.if-not-names_once.ensures.0 refl in (
+      λ e. record { few = c.if-lines-gt32.false; visible = c.if-not-all_visible.ensures.0 refl; once = once; associative = (c.is_associative.ensures once).0 e },
+      λ ok. (c.is_associative.ensures once).1 ok.associative,
     )

@@ -18,12 +18,12 @@ returns g c =
     record {
       tells = (
         c.judge.result,
-        c.answer-of-verdict.ensures,
+        c.answer_of_verdict.ensures,
         subst (λ (z : Room). Says (judge_why (rows_of v) (columns_of v) L R z.marks z.queue) L R (standing v) c.judge.result)
             (part_lent c.args.marks.now c.args.queue.now c.args.lent c.min-m.result c.min-q.result c.min-m.ensures c.min-q.ensures) told.says,
       );
-      marks = by_verdict c.judge.result c.answer-of-verdict.result _ _ _ c.answer-of-verdict.ensures
+      marks = by_verdict c.judge.result c.answer_of_verdict.result _ _ _ c.answer_of_verdict.ensures
           (lent_marks c.judge.result (rows_of v) (columns_of v) L R c.args.marks.now c.args.queue.now c.judge.new.marks c.args.lent c.min-m.result c.min-q.result c.min-m.ensures c.min-q.ensures free c.judge.auto.marks told.marks);
-      queue = by_verdict c.judge.result c.answer-of-verdict.result _ _ _ c.answer-of-verdict.ensures
+      queue = by_verdict c.judge.result c.answer_of_verdict.result _ _ _ c.answer_of_verdict.ensures
           (lent_queue c.judge.result (rows_of v) (columns_of v) L R c.args.marks.now c.args.queue.now c.judge.new.queue c.args.lent c.min-m.result c.min-q.result c.min-m.ensures c.min-q.ensures free c.judge.auto.queue told.queue);
     }

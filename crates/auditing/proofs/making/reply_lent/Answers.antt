@@ -18,12 +18,12 @@ returns g c =
     record {
       tells = (
         c.reply.result,
-        c.answer-of-reply.ensures,
+        c.answer_of_reply.ensures,
         subst (λ (z : Room). ReplySays (reply_why (rows_of v) (columns_of v) L R z.marks z.queue (standing v) c.args.ask) L R (standing v) c.args.ask c.reply.result)
             (part_lent c.args.marks.now c.args.queue.now c.args.lent c.min-m.result c.min-q.result c.min-m.ensures c.min-q.ensures) told.says,
       );
-      marks = by_reply c.reply.result c.answer-of-reply.result _ _ _ c.answer-of-reply.ensures
+      marks = by_reply c.reply.result c.answer_of_reply.result _ _ _ c.answer_of_reply.ensures
           (lent_marks c.reply.result (rows_of v) (columns_of v) L R c.args.marks.now c.args.queue.now c.reply.new.marks c.args.lent c.min-m.result c.min-q.result c.min-m.ensures c.min-q.ensures free c.reply.auto.marks told.marks);
-      queue = by_reply c.reply.result c.answer-of-reply.result _ _ _ c.answer-of-reply.ensures
+      queue = by_reply c.reply.result c.answer_of_reply.result _ _ _ c.answer_of_reply.ensures
           (lent_queue c.reply.result (rows_of v) (columns_of v) L R c.args.marks.now c.args.queue.now c.reply.new.queue c.args.lent c.min-m.result c.min-q.result c.min-m.ensures c.min-q.ensures free c.reply.auto.queue told.queue);
     }

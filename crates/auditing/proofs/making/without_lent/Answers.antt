@@ -20,12 +20,12 @@ returns g c =
       after = c.without.ensures.pairs;
       tells = (
         c.without.result,
-        c.answer-of-verdict.ensures,
+        c.answer_of_verdict.ensures,
         subst (λ (z : Room). Says (without_why (rows_of v) (columns_of v) L R z.marks z.queue (standing v) c.args.s c.args.t) L R (removing (standing v) c.args.s c.args.t) c.without.result)
             (part_lent c.args.marks.now c.args.queue.now c.args.lent c.min-m.result c.min-q.result c.min-m.ensures c.min-q.ensures) told.says,
       );
-      marks = by_verdict c.without.result c.answer-of-verdict.result _ _ _ c.answer-of-verdict.ensures
+      marks = by_verdict c.without.result c.answer_of_verdict.result _ _ _ c.answer_of_verdict.ensures
           (lent_marks c.without.result (rows_of v) (columns_of v) L R c.args.marks.now c.args.queue.now c.without.new.marks c.args.lent c.min-m.result c.min-q.result c.min-m.ensures c.min-q.ensures free c.without.auto.marks told.marks);
-      queue = by_verdict c.without.result c.answer-of-verdict.result _ _ _ c.answer-of-verdict.ensures
+      queue = by_verdict c.without.result c.answer_of_verdict.result _ _ _ c.answer_of_verdict.ensures
           (lent_queue c.without.result (rows_of v) (columns_of v) L R c.args.marks.now c.args.queue.now c.without.new.queue c.args.lent c.min-m.result c.min-q.result c.min-m.ensures c.min-q.ensures free c.without.auto.queue told.queue);
     }

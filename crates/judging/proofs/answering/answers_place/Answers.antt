@@ -8,8 +8,8 @@ returns-in-Some g c =
     let R = g.R.TransitionSystem.meaning c.args.right.now in
     let B = g.P.Pairing.standing c.args.pairing.now in
     record {
-      tells = place_tells L R B c.args.s c.args.t c.args.place c.in-Some.want (sym c.in-Some.ensures) c.answers-step.result c.answers-step.ensures.tells;
-      clean = c.answers-step.ensures.clean;
+      tells = place_tells L R B c.args.s c.args.t c.args.place c.in-Some.want (sym c.in-Some.ensures) c.answers_step.result c.answers_step.ensures.tells;
+      clean = c.answers_step.ensures.clean;
     }
 
 pub returns-in-None : goal.returns-in-None

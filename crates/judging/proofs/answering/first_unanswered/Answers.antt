@@ -2,17 +2,17 @@ use Rattle.std.proofs.Common.{ℕ, arith, below_more}
 use Rattle.transitions.specs.Verdict.{AtPlace}
 use Rattle.judging.proofs.answering.first_unanswered.Goals as goal
 
-pub returns-then-not-answers-place : goal.returns-then-not-answers-place
-returns-then-not-answers-place g c =
+pub returns-then-not-answers_place : goal.returns-then-not-answers_place
+returns-then-not-answers_place g c =
     record {
-      lowest = (omega (arith, c.width-place-end.ensures, c.loop-place-test.true), c.if-not-answers-place.ensures.tells, c.loop-place.invariant.1);
-      clean = c.answers-place.ensures.clean;
+      lowest = (omega (arith, c.width-place-end.ensures, c.loop-place-test.true), c.if-not-answers_place.ensures.tells, c.loop-place.invariant.1);
+      clean = c.answers_place.ensures.clean;
     }
 
 pub loop-place-preserved : goal.loop-place-preserved
 loop-place-preserved g c =
     let P : ℕ → Type 0 = AtPlace (g.L.TransitionSystem.meaning c.args.left.now) (g.R.TransitionSystem.meaning c.args.right.now) (g.P.Pairing.standing c.args.pairing.now) c.args.s c.args.t in
-    (c.answers-place.ensures.clean, below_more P _ c.loop-place.invariant.1 c.if-not-answers-place.ensures.tells)
+    (c.answers_place.ensures.clean, below_more P _ c.loop-place.invariant.1 c.if-not-answers_place.ensures.tells)
 
 pub returns : goal.returns
 returns g c =

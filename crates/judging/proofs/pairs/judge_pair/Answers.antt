@@ -8,37 +8,37 @@ returns-in-Some g c =
     let B = g.P.Pairing.standing c.args.pairing.now in
     record {
       judged = left_step L R B _ _ c.requires.leftmost c.requires.rightmost c.requires.stands _ c.in-Some.ensures.lowest;
-      clean = c.first-unanswered.ensures.clean;
+      clean = c.first_unanswered.ensures.clean;
     }
 
-pub returns-in-Some-right-unanswered : goal.returns-in-Some-right-unanswered
-returns-in-Some-right-unanswered g c =
+pub returns-in-Some-right_unanswered : goal.returns-in-Some-right_unanswered
+returns-in-Some-right_unanswered g c =
     let L = g.L.TransitionSystem.meaning c.args.left.now in
     let R = g.R.TransitionSystem.meaning c.args.right.now in
     let B = g.P.Pairing.standing c.args.pairing.now in
     record {
-      judged = right_step L R B _ _ c.requires.leftmost c.requires.rightmost c.requires.stands c.in-default.ensures.lowest _ c.in-Some-right-unanswered.ensures.lowest;
-      clean = c.right-unanswered.ensures.clean;
+      judged = right_step L R B _ _ c.requires.leftmost c.requires.rightmost c.requires.stands c.in-default.ensures.lowest _ c.in-Some-right_unanswered.ensures.lowest;
+      clean = c.right_unanswered.ensures.clean;
     }
 
-pub returns-then-not-answers-end : goal.returns-then-not-answers-end
-returns-then-not-answers-end g c =
+pub returns-then-not-answers_end : goal.returns-then-not-answers_end
+returns-then-not-answers_end g c =
     let L = g.L.TransitionSystem.meaning c.args.left.now in
     let R = g.R.TransitionSystem.meaning c.args.right.now in
     let B = g.P.Pairing.standing c.args.pairing.now in
     record {
-      judged = left_end L R B _ _ c.requires.leftmost c.requires.rightmost c.requires.stands c.in-default.ensures.lowest c.in-default-right-unanswered.ensures.lowest c.if-not-answers-end.ensures.tells;
-      clean = c.answers-end.ensures.clean;
+      judged = left_end L R B _ _ c.requires.leftmost c.requires.rightmost c.requires.stands c.in-default.ensures.lowest c.in-default-right_unanswered.ensures.lowest c.if-not-answers_end.ensures.tells;
+      clean = c.answers_end.ensures.clean;
     }
 
-pub returns-then-not-answers-right-end : goal.returns-then-not-answers-right-end
-returns-then-not-answers-right-end g c =
+pub returns-then-not-answers_right_end : goal.returns-then-not-answers_right_end
+returns-then-not-answers_right_end g c =
     let L = g.L.TransitionSystem.meaning c.args.left.now in
     let R = g.R.TransitionSystem.meaning c.args.right.now in
     let B = g.P.Pairing.standing c.args.pairing.now in
     record {
-      judged = right_end L R B _ _ c.requires.leftmost c.requires.rightmost c.requires.stands c.in-default.ensures.lowest c.in-default-right-unanswered.ensures.lowest c.if-not-answers-end.ensures.tells c.if-not-answers-right-end.ensures.tells;
-      clean = c.answers-right-end.ensures.clean;
+      judged = right_end L R B _ _ c.requires.leftmost c.requires.rightmost c.requires.stands c.in-default.ensures.lowest c.in-default-right_unanswered.ensures.lowest c.if-not-answers_end.ensures.tells c.if-not-answers_right_end.ensures.tells;
+      clean = c.answers_right_end.ensures.clean;
     }
 
 pub returns : goal.returns
@@ -47,6 +47,6 @@ returns g c =
     let R = g.R.TransitionSystem.meaning c.args.right.now in
     let B = g.P.Pairing.standing c.args.pairing.now in
     record {
-      judged = all_answered L R B _ _ c.requires.leftmost c.requires.rightmost c.requires.stands c.in-default.ensures.lowest c.in-default-right-unanswered.ensures.lowest c.if-not-answers-end.ensures.tells c.if-not-answers-right-end.ensures.tells;
-      clean = c.answers-right-end.ensures.clean;
+      judged = all_answered L R B _ _ c.requires.leftmost c.requires.rightmost c.requires.stands c.in-default.ensures.lowest c.in-default-right_unanswered.ensures.lowest c.if-not-answers_end.ensures.tells c.if-not-answers_right_end.ensures.tells;
+      clean = c.answers_right_end.ensures.clean;
     }

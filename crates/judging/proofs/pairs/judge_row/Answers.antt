@@ -8,17 +8,17 @@ loop-t-preserved g c =
     let R = g.R.TransitionSystem.meaning c.args.right.now in
     let B = g.P.Pairing.standing c.args.pairing.now in
     let next = c.in-Some.ensures in
-    (c.judge-pair.ensures.clean, row_more L R B c.args.s c.loop-t.from c.in-Some.t c.loop-t.invariant.1 next.3 c.in-default-judge-pair.ensures.judged)
+    (c.judge_pair.ensures.clean, row_more L R B c.args.s c.loop-t.from c.in-Some.t c.loop-t.invariant.1 next.3 c.in-default-judge_pair.ensures.judged)
 
-pub returns-in-Some-judge-pair : goal.returns-in-Some-judge-pair
-returns-in-Some-judge-pair g c =
+pub returns-in-Some-judge_pair : goal.returns-in-Some-judge_pair
+returns-in-Some-judge_pair g c =
     let L = g.L.TransitionSystem.meaning c.args.left.now in
     let R = g.R.TransitionSystem.meaning c.args.right.now in
     let B = g.P.Pairing.standing c.args.pairing.now in
     let next = c.in-Some.ensures in
     record {
-      judged = row_broken L R B c.args.s c.loop-t.from c.in-Some.t c.in-Some-judge-pair.broken c.loop-t.invariant.1 next.3 c.in-Some-judge-pair.ensures.judged;
-      clean = c.judge-pair.ensures.clean;
+      judged = row_broken L R B c.args.s c.loop-t.from c.in-Some.t c.in-Some-judge_pair.broken c.loop-t.invariant.1 next.3 c.in-Some-judge_pair.ensures.judged;
+      clean = c.judge_pair.ensures.clean;
     }
 
 pub returns : goal.returns

@@ -2,8 +2,8 @@ use Rattle.std.proofs.Common.{rules}
 use Rattle.judging.proofs.Wiping.{blank_replicate}
 use Rattle.judging.proofs.verdict.judge_in.Goals as goal
 
-pub judge-clean-requires : goal.judge-clean-requires
-judge-clean-requires g c =
+pub judge_clean-requires : goal.judge_clean-requires
+judge_clean-requires g c =
     record {
       wide = search rules;
       high = search rules;

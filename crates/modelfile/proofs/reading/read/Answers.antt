@@ -23,8 +23,8 @@ returns-in-Ok c =
     let f = c.in-Ok.ensures in
     let R : Room = room_is c.args.lines.now c.args.equations.now c.args.terms.now in
     record {
-      holds = reads_sound R c.args.bytes.now (tables_is c.in-Ok.n c.try-read.new.lines c.try-read.new.equations c.try-read.new.terms) f.reads;
-      no_other = λ t h. only R c.args.bytes.now (tables_is c.in-Ok.n c.try-read.new.lines c.try-read.new.equations c.try-read.new.terms) t f.reads h;
+      holds = reads_sound R c.args.bytes.now (tables_is c.in-Ok.n c.try_read.new.lines c.try_read.new.equations c.try_read.new.terms) f.reads;
+      no_other = λ t h. only R c.args.bytes.now (tables_is c.in-Ok.n c.try_read.new.lines c.try_read.new.equations c.try_read.new.terms) t f.reads h;
       lines_in = f.lines_in;
       equations_in = f.equations_in;
       terms_in = f.terms_in;

@@ -7,4 +7,4 @@ use Rattle.modelfile.proofs.Finding.{found_any}
 use Rattle.modelfile.proofs.repeats.is_line_before.Goals as goal
 
 pub returns : goal.returns
-returns c = c.is-some.ensures ∙ found_any (λ (x y : JoinLine). names x y.a y.b) _ c.args.l c.find-same.result c.find-same.ensures ∙ ap (λ n. any (λ k. names k c.args.l.a c.args.l.b) (take n c.args.lines.now)) (sub-zero c.args.count)
+returns c = c.is_some.ensures ∙ found_any (λ (x y : JoinLine). names x y.a y.b) _ c.args.l c.find_same.result c.find_same.ensures ∙ ap (λ n. any (λ k. names k c.args.l.a c.args.l.b) (take n c.args.lines.now)) (sub-zero c.args.count)

@@ -4,11 +4,11 @@ use Rattle.tokens.specs.Numbers.{hex_on}
 use Rattle.tokens.proofs.Digits.{hex_bad, hex_more, sixteen_more, sixteen_few}
 use Rattle.tokens.proofs.values.hex_of.Goals as goal
 
-pub overflow-mul-v : goal.overflow-mul-v
-overflow-mul-v c = let m : c.loop-b.v < 16 ^ 15 = sixteen_few _ _ c.loop-b.invariant.1 (omega arith) in omega arith
+pub overflow_mul-v : goal.overflow_mul-v
+overflow_mul-v c = let m : c.loop-b.v < 16 ^ 15 = sixteen_few _ _ c.loop-b.invariant.1 (omega arith) in omega arith
 
-pub overflow-add-v : goal.overflow-add-v
-overflow-add-v c =
+pub overflow_add-v : goal.overflow_add-v
+overflow_add-v c =
     let m : c.loop-b.v < 16 ^ 15 = sixteen_few _ _ c.loop-b.invariant.1 (omega arith) in
     let d : c.in-Some.d < 16 = c.in-Some.ensures.1 in omega arith
 

@@ -5,8 +5,8 @@ use Rattle.sheets.proofs.Refusals.{pair_ok}
 use Rattle.sheets.proofs.Sizing.{there, put_stood, numbered}
 use Rattle.sheets.proofs.sheet.Sheet.pair.Goals as goal
 
-pub put-bit-requires : goal.put-bit-requires
-put-bit-requires c =
+pub put_bit-requires : goal.put_bit-requires
+put_bit-requires c =
     there c.args.self.now.size c.args.self.now.bytes.now c.within-size.result.rows c.within-size.result.columns c.args.s c.args.t c.within-size.ensures.rows c.within-size.ensures.columns (sym c.if-not-has.ensures)
 
 pub returns : goal.returns
@@ -17,9 +17,9 @@ returns c =
     let en = c.within-size.ensures.rows in
     let em = c.within-size.ensures.columns in
     let has = sym c.if-not-has.ensures in
-    let made = c.put-bit.ensures in
+    let made = c.put_bit.ensures in
     record {
-      says = pair_ok n m _ _ (standing v) _ _ en em (sym c.if-is-blank.ensures) has (sym c.if-stands.ensures);
+      says = pair_ok n m _ _ (standing v) _ _ en em (sym c.if-is_blank.ensures) has (sym c.if-stands.ensures);
       pairs = put_stood v.size v.bytes.now n m _ _ en em has _ made;
       bytes = made ∙ numbered v.size v.bytes.now n m _ _ en em has (with_bit v.bytes.now);
       kept = search rules;

@@ -14,8 +14,8 @@ bounds-bytes-i g c =
     let em = c.within-columns.ensures.columns in
     there z c.args.bytes.now n c.within-columns.result.columns c.args.s c.args.t refl em (subst (λ (x : ℕ). in_range n x c.args.s c.args.t ≡ true) (sym em) c.requires)
 
-pub judge-with-requires : goal.judge-with-requires
-judge-with-requires g c =
+pub judge_with-requires : goal.judge_with-requires
+judge_with-requires g c =
     let z = c.args.size in
     let n = in_force z (length c.args.bytes.now) z.rows in
     let em = c.within-columns.ensures.columns in
@@ -31,9 +31,9 @@ returns g c =
     let L = g.L.TransitionSystem.meaning c.args.left.now in
     let R = g.R.TransitionSystem.meaning c.args.right.now in
     let before : Scratch = record { marks = c.args.marks.now; queue = c.args.queue.now } in
-    let after : Scratch = record { marks = c.judge-with.new.marks; queue = c.judge-with.new.queue } in
+    let after : Scratch = record { marks = c.judge_with.new.marks; queue = c.judge_with.new.queue } in
     record {
-      judged = subst (λ (B : Pairing). Judged (refusal L R before) L R B before after c.judge-with.result)
-          (taken_stood z bytes n c.within-columns.result.columns c.args.s c.args.t refl em h _ (taken_made bytes _)) c.judge-with.ensures.judged;
-      same = c.judge-with.ensures.same;
+      judged = subst (λ (B : Pairing). Judged (refusal L R before) L R B before after c.judge_with.result)
+          (taken_stood z bytes n c.within-columns.result.columns c.args.s c.args.t refl em h _ (taken_made bytes _)) c.judge_with.ensures.judged;
+      same = c.judge_with.ensures.same;
     }
