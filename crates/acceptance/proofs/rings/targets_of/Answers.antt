@@ -8,8 +8,8 @@ use Rattle.acceptance.proofs.rings.targets_of.Goals.{in-Becomes, in-Ends}
 
 pub loop-line-preserved : goal.loop-line-preserved
 loop-line-preserved c = elim c.match-line.branch [
-  | in-Becomes w ↦ left_set c.loop-line.marks c.match-line.marks w.in-Becomes.y (targets (drop c.loop-line.line-index c.args.equations.now)) (targets (drop (c.loop-line.line-index + 1) c.args.equations.now)) (targets c.args.equations.now) c.loop-line.invariant.0 (omega arith) w.marks-is (targets_on c.args.equations.now c.loop-line.line-index (Ends 0 0) c.loop-line-test.true w.in-Becomes.-x w.in-Becomes.-a w.in-Becomes.y w.in-Becomes.is) c.loop-line.invariant.1
-  | in-Ends w ↦ left_kept c.loop-line.marks c.match-line.marks (targets (drop c.loop-line.line-index c.args.equations.now)) (targets (drop (c.loop-line.line-index + 1) c.args.equations.now)) (targets c.args.equations.now) c.loop-line.invariant.0 w.marks-is (targets_past c.args.equations.now c.loop-line.line-index (Ends 0 0) c.loop-line-test.true w.in-Ends.-x w.in-Ends.-a w.in-Ends.is) c.loop-line.invariant.1
+  | in-Becomes w ↦ left_set c.loop-line.marks c.match-line.marks w.in-Becomes.y (targets (drop c.loop-line.line-index c.args.equations.now)) (targets (drop (c.loop-line.line-index + 1) c.args.equations.now)) (targets c.args.equations.now) c.loop-line.invariant.0 (omega arith) w.marks-is (targets_on c.args.equations.now c.loop-line.line-index (Ends 0 0) c.loop-line-test.true w.in-Becomes._x w.in-Becomes._a w.in-Becomes.y w.in-Becomes.is) c.loop-line.invariant.1
+  | in-Ends w ↦ left_kept c.loop-line.marks c.match-line.marks (targets (drop c.loop-line.line-index c.args.equations.now)) (targets (drop (c.loop-line.line-index + 1) c.args.equations.now)) (targets c.args.equations.now) c.loop-line.invariant.0 w.marks-is (targets_past c.args.equations.now c.loop-line.line-index (Ends 0 0) c.loop-line-test.true w.in-Ends._x w.in-Ends._a w.in-Ends.is) c.loop-line.invariant.1
 ]
 
 pub loop-line-init : goal.loop-line-init

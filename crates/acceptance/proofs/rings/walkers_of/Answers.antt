@@ -32,8 +32,8 @@ loop-line-preserved c = elim c.match-line.branch [
   | in-Ends w ↦ (
     ap length w.next-is ∙ c.loop-line.invariant.0,
     λ A m. (
-      (left_kept c.loop-line.next c.match-line.next (walkers (drop c.loop-line.line-index c.args.equations.now) A) (walkers (drop (c.loop-line.line-index + 1) c.args.equations.now) A) (walkers c.args.equations.now A) c.loop-line.invariant.0 w.next-is (walkers_past c.args.equations.now c.loop-line.line-index (Ends 0 0) c.loop-line-test.true A w.in-Ends.-x w.in-Ends.-a w.in-Ends.is) (c.loop-line.invariant.1 A m).0).1,
-      ap (λ f. f || some? (walkers (drop (c.loop-line.line-index + 1) c.args.equations.now) A)) w.found-is ∙ found_past c.loop-line.found (walkers (drop c.loop-line.line-index c.args.equations.now) A) (walkers (drop (c.loop-line.line-index + 1) c.args.equations.now) A) (walkers c.args.equations.now A) (walkers_past c.args.equations.now c.loop-line.line-index (Ends 0 0) c.loop-line-test.true A w.in-Ends.-x w.in-Ends.-a w.in-Ends.is) (c.loop-line.invariant.1 A m).1,
+      (left_kept c.loop-line.next c.match-line.next (walkers (drop c.loop-line.line-index c.args.equations.now) A) (walkers (drop (c.loop-line.line-index + 1) c.args.equations.now) A) (walkers c.args.equations.now A) c.loop-line.invariant.0 w.next-is (walkers_past c.args.equations.now c.loop-line.line-index (Ends 0 0) c.loop-line-test.true A w.in-Ends._x w.in-Ends._a w.in-Ends.is) (c.loop-line.invariant.1 A m).0).1,
+      ap (λ f. f || some? (walkers (drop (c.loop-line.line-index + 1) c.args.equations.now) A)) w.found-is ∙ found_past c.loop-line.found (walkers (drop c.loop-line.line-index c.args.equations.now) A) (walkers (drop (c.loop-line.line-index + 1) c.args.equations.now) A) (walkers c.args.equations.now A) (walkers_past c.args.equations.now c.loop-line.line-index (Ends 0 0) c.loop-line-test.true A w.in-Ends._x w.in-Ends._a w.in-Ends.is) (c.loop-line.invariant.1 A m).1,
     ),
   )
 ]

@@ -5,7 +5,7 @@ use Rattle.judging.proofs.calls.judge.Goals as goal
 pub returns : goal.returns
 returns g c =
     record {
-      says = (sym c.in-default.ensures, c.judge_in.ensures.is);
+      says = (sym c.in_default.ensures, c.judge_in.ensures.is);
       marks = wiped_part _ c.max-n.result _ _ (search rules) (search rules) c.judge_in.ensures.clean.no_marks;
       queue = wiped_part _ c.max-n.result _ _ (search rules) (search rules) c.judge_in.ensures.clean.no_queue;
     }

@@ -17,7 +17,7 @@ returns-in-Some-right_unanswered g c =
     let R = g.R.TransitionSystem.meaning c.args.right.now in
     let B = g.P.Pairing.standing c.args.pairing.now in
     record {
-      judged = right_step L R B _ _ c.requires.leftmost c.requires.rightmost c.requires.stands c.in-default.ensures.lowest _ c.in-Some-right_unanswered.ensures.lowest;
+      judged = right_step L R B _ _ c.requires.leftmost c.requires.rightmost c.requires.stands c.in_default.ensures.lowest _ c.in-Some-right_unanswered.ensures.lowest;
       clean = c.right_unanswered.ensures.clean;
     }
 
@@ -27,7 +27,7 @@ returns-then-not-answers_end g c =
     let R = g.R.TransitionSystem.meaning c.args.right.now in
     let B = g.P.Pairing.standing c.args.pairing.now in
     record {
-      judged = left_end L R B _ _ c.requires.leftmost c.requires.rightmost c.requires.stands c.in-default.ensures.lowest c.in-default-right_unanswered.ensures.lowest c.if-not-answers_end.ensures.tells;
+      judged = left_end L R B _ _ c.requires.leftmost c.requires.rightmost c.requires.stands c.in_default.ensures.lowest c.in_default-right_unanswered.ensures.lowest c.if-not-answers_end.ensures.tells;
       clean = c.answers_end.ensures.clean;
     }
 
@@ -37,7 +37,7 @@ returns-then-not-answers_right_end g c =
     let R = g.R.TransitionSystem.meaning c.args.right.now in
     let B = g.P.Pairing.standing c.args.pairing.now in
     record {
-      judged = right_end L R B _ _ c.requires.leftmost c.requires.rightmost c.requires.stands c.in-default.ensures.lowest c.in-default-right_unanswered.ensures.lowest c.if-not-answers_end.ensures.tells c.if-not-answers_right_end.ensures.tells;
+      judged = right_end L R B _ _ c.requires.leftmost c.requires.rightmost c.requires.stands c.in_default.ensures.lowest c.in_default-right_unanswered.ensures.lowest c.if-not-answers_end.ensures.tells c.if-not-answers_right_end.ensures.tells;
       clean = c.answers_right_end.ensures.clean;
     }
 
@@ -47,6 +47,6 @@ returns g c =
     let R = g.R.TransitionSystem.meaning c.args.right.now in
     let B = g.P.Pairing.standing c.args.pairing.now in
     record {
-      judged = all_answered L R B _ _ c.requires.leftmost c.requires.rightmost c.requires.stands c.in-default.ensures.lowest c.in-default-right_unanswered.ensures.lowest c.if-not-answers_end.ensures.tells c.if-not-answers_right_end.ensures.tells;
+      judged = all_answered L R B _ _ c.requires.leftmost c.requires.rightmost c.requires.stands c.in_default.ensures.lowest c.in_default-right_unanswered.ensures.lowest c.if-not-answers_end.ensures.tells c.if-not-answers_right_end.ensures.tells;
       clean = c.answers_right_end.ensures.clean;
     }

@@ -8,7 +8,7 @@ loop-t-preserved g c =
     let R = g.R.TransitionSystem.meaning c.args.right.now in
     let B = g.P.Pairing.standing c.args.pairing.now in
     let next = c.in-Some.ensures in
-    (c.judge_pair.ensures.clean, row_more L R B c.args.s c.loop-t.from c.in-Some.t c.loop-t.invariant.1 next.3 c.in-default-judge_pair.ensures.judged)
+    (c.judge_pair.ensures.clean, row_more L R B c.args.s c.loop-t.from c.in-Some.t c.loop-t.invariant.1 next.3 c.in_default-judge_pair.ensures.judged)
 
 pub returns-in-Some-judge_pair : goal.returns-in-Some-judge_pair
 returns-in-Some-judge_pair g c =
@@ -27,6 +27,6 @@ returns g c =
     let R = g.R.TransitionSystem.meaning c.args.right.now in
     let B = g.P.Pairing.standing c.args.pairing.now in
     record {
-      judged = λ t h. row_passed L R B c.args.s c.loop-t.from c.states-below.result c.loop-t.invariant.1 c.in-default.ensures t (omega (arith, c.states-below.ensures));
+      judged = λ t h. row_passed L R B c.args.s c.loop-t.from c.states-below.result c.loop-t.invariant.1 c.in_default.ensures t (omega (arith, c.states-below.ensures));
       clean = c.loop-t.invariant.0;
     }

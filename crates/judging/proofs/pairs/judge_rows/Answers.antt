@@ -13,7 +13,7 @@ returns-in-Some g c =
 pub loop-s-preserved : goal.loop-s-preserved
 loop-s-preserved g c =
     let P : ℕ → Type 0 = λ s. RowJudged (g.L.TransitionSystem.meaning c.args.left.now) (g.R.TransitionSystem.meaning c.args.right.now) (g.P.Pairing.standing c.args.pairing.now) s None in
-    (c.judge_row.ensures.clean, below_more P _ c.loop-s.invariant.1 c.in-default.ensures.judged)
+    (c.judge_row.ensures.clean, below_more P _ c.loop-s.invariant.1 c.in_default.ensures.judged)
 
 pub returns : goal.returns
 returns g c =

@@ -25,7 +25,7 @@ returns-in-Some-first_unrooted g c =
     let R = g.R.TransitionSystem.meaning c.args.right.now in
     let B = g.P.Pairing.standing c.args.pairing.now in
     record {
-      is = unrooted_left L R B _ _ c.start-s.ensures c.start-t.ensures _ (sym c.if-not-stands.ensures) c.in-default.ensures.judged c.in-Some-first_unrooted.ensures;
+      is = unrooted_left L R B _ _ c.start-s.ensures c.start-t.ensures _ (sym c.if-not-stands.ensures) c.in_default.ensures.judged c.in-Some-first_unrooted.ensures;
       clean = c.judge_rows.ensures.clean;
     }
 
@@ -35,7 +35,7 @@ returns-in-Some-first_unrooted-2 g c =
     let R = g.R.TransitionSystem.meaning c.args.right.now in
     let B = g.P.Pairing.standing c.args.pairing.now in
     record {
-      is = unrooted_right L R B _ _ c.start-s.ensures c.start-t.ensures _ (sym c.if-not-stands.ensures) c.in-default.ensures.judged c.in-default-first_unrooted.ensures c.in-Some-first_unrooted-2.ensures;
+      is = unrooted_right L R B _ _ c.start-s.ensures c.start-t.ensures _ (sym c.if-not-stands.ensures) c.in_default.ensures.judged c.in_default-first_unrooted.ensures c.in-Some-first_unrooted-2.ensures;
       clean = c.judge_rows.ensures.clean;
     }
 
@@ -45,7 +45,7 @@ returns g c =
     let R = g.R.TransitionSystem.meaning c.args.right.now in
     let B = g.P.Pairing.standing c.args.pairing.now in
     record {
-      is = matched L R B (started L R B _ _ c.start-s.ensures c.start-t.ensures true (sym c.if-not-stands.ensures)) c.in-default.ensures.judged c.in-default-first_unrooted.ensures
-          (g.L.TransitionSystem.lawful c.args.left.now) (g.R.TransitionSystem.lawful c.args.right.now) c.in-default-first_unrooted-2.ensures;
+      is = matched L R B (started L R B _ _ c.start-s.ensures c.start-t.ensures true (sym c.if-not-stands.ensures)) c.in_default.ensures.judged c.in_default-first_unrooted.ensures
+          (g.L.TransitionSystem.lawful c.args.left.now) (g.R.TransitionSystem.lawful c.args.right.now) c.in_default-first_unrooted-2.ensures;
       clean = c.judge_rows.ensures.clean;
     }
