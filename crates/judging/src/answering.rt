@@ -13,7 +13,7 @@ use transitions::steps::Step;
 
 // Whether t may stay: the step is silent and its target stands with t.
 pub(crate) fn stays<P: Pairing>(pairing: &P, want: Step, t: usize) -> bool
-    ensures { result ≡ (want.action == 0 && standing pairing.now want.target t) }
+    ensures { result ≡ (want.action == 0 && P.standing pairing.now want.target t) }
 {
     want.action == 0 && pairing.stands(want.target as usize, t)
 }
@@ -28,10 +28,10 @@ fn answers_step<R: TransitionSystem, P: Pairing>(
     marks: &mut [u8],
     queue: &mut [u16],
 ) -> bool
-    requires state { t < (meaning right.now).states }
-    requires fit { (meaning right.now).states ≤ length marks.old }
+    requires state { t < (R.meaning right.now).states }
+    requires fit { (R.meaning right.now).states ≤ length marks.old }
     requires clean { Clean marks.old queue.old }
-    ensures tells { Tells result (Answered (meaning right.now) (standing pairing.now) s t want.action want.target) }
+    ensures tells { Tells result (Answered (R.meaning right.now) (P.standing pairing.now) s t want.action want.target) }
     ensures clean { Clean marks.new queue.new }
 {
     if stays(pairing, want, t) {
@@ -63,7 +63,7 @@ fn answers_place<L: TransitionSystem, R: TransitionSystem, P: Pairing>(
     requires state { t < (R.TransitionSystem.meaning right.now).states }
     requires fit { (R.TransitionSystem.meaning right.now).states ≤ length marks.old }
     requires clean { Clean marks.old queue.old }
-    ensures tells { Tells result (AtPlace (L.TransitionSystem.meaning left.now) (R.TransitionSystem.meaning right.now) (standing pairing.now) s t place) }
+    ensures tells { Tells result (AtPlace (L.TransitionSystem.meaning left.now) (R.TransitionSystem.meaning right.now) (P.standing pairing.now) s t place) }
     ensures clean { Clean marks.new queue.new }
 {
     match left.step(s, place) {
@@ -85,7 +85,7 @@ pub(crate) fn first_unanswered<L: TransitionSystem, R: TransitionSystem, P: Pair
     requires state { t < (R.TransitionSystem.meaning right.now).states }
     requires fit { (R.TransitionSystem.meaning right.now).states ≤ length marks.old }
     requires clean { Clean marks.old queue.old }
-    ensures lowest { Lowest (L.TransitionSystem.meaning left.now).width (AtPlace (L.TransitionSystem.meaning left.now) (R.TransitionSystem.meaning right.now) (standing pairing.now) s t) result }
+    ensures lowest { Lowest (L.TransitionSystem.meaning left.now).width (AtPlace (L.TransitionSystem.meaning left.now) (R.TransitionSystem.meaning right.now) (P.standing pairing.now) s t) result }
     ensures clean { Clean marks.new queue.new }
 {
     for place in 0..left.width() {
@@ -109,7 +109,7 @@ pub(crate) fn answers_end<L: TransitionSystem, R: TransitionSystem, P: Pairing>(
     requires state { t < (R.TransitionSystem.meaning right.now).states }
     requires fit { (R.TransitionSystem.meaning right.now).states ≤ length marks.old }
     requires clean { Clean marks.old queue.old }
-    ensures tells { Tells result (AtEnd (L.TransitionSystem.meaning left.now) (R.TransitionSystem.meaning right.now) (standing pairing.now) s t) }
+    ensures tells { Tells result (AtEnd (L.TransitionSystem.meaning left.now) (R.TransitionSystem.meaning right.now) (P.standing pairing.now) s t) }
     ensures clean { Clean marks.new queue.new }
 {
     if !left.may_end(s) {

@@ -39,7 +39,7 @@ pub fn judge<L: TransitionSystem, R: TransitionSystem, P: Pairing>(
     marks: &mut [u8],
     queue: &mut [u16],
 ) -> Result<Verdict, Fault>
-    ensures { Judged (refusal (L.TransitionSystem.meaning left.now) (R.TransitionSystem.meaning right.now) (record { marks = marks.entry.now; queue = queue.old })) (L.TransitionSystem.meaning left.now) (R.TransitionSystem.meaning right.now) (standing pairing.now) (record { marks = marks.entry.now; queue = queue.old }) (record { marks = marks.exit.now; queue = queue.new }) result }
+    ensures { Judged (refusal (L.TransitionSystem.meaning left.now) (R.TransitionSystem.meaning right.now) (record { marks = marks.entry.now; queue = queue.old })) (L.TransitionSystem.meaning left.now) (R.TransitionSystem.meaning right.now) (P.standing pairing.now) (record { marks = marks.entry.now; queue = queue.old }) (record { marks = marks.exit.now; queue = queue.new }) result }
 {
     if let Some(fault) = unready(left, right, marks, queue) {
         return Err(fault);

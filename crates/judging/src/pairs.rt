@@ -25,7 +25,7 @@ fn right_unanswered<L: TransitionSystem, R: TransitionSystem, P: Pairing>(
     requires state { s < (L.TransitionSystem.meaning left.now).states }
     requires fit { (L.TransitionSystem.meaning left.now).states ≤ length marks.old }
     requires clean { Clean marks.old queue.old }
-    ensures lowest { Lowest (R.TransitionSystem.meaning right.now).width (AtPlace (R.TransitionSystem.meaning right.now) (L.TransitionSystem.meaning left.now) (flip (standing pairing.now)) t s) result }
+    ensures lowest { Lowest (R.TransitionSystem.meaning right.now).width (AtPlace (R.TransitionSystem.meaning right.now) (L.TransitionSystem.meaning left.now) (flip (P.standing pairing.now)) t s) result }
     ensures clean { Clean marks.new queue.new }
 {
     let flipped = Flipped { pairing };
@@ -45,7 +45,7 @@ fn answers_right_end<L: TransitionSystem, R: TransitionSystem, P: Pairing>(
     requires state { s < (L.TransitionSystem.meaning left.now).states }
     requires fit { (L.TransitionSystem.meaning left.now).states ≤ length marks.old }
     requires clean { Clean marks.old queue.old }
-    ensures tells { Tells result (AtEnd (R.TransitionSystem.meaning right.now) (L.TransitionSystem.meaning left.now) (flip (standing pairing.now)) t s) }
+    ensures tells { Tells result (AtEnd (R.TransitionSystem.meaning right.now) (L.TransitionSystem.meaning left.now) (flip (P.standing pairing.now)) t s) }
     ensures clean { Clean marks.new queue.new }
 {
     let flipped = Flipped { pairing };
@@ -64,11 +64,11 @@ fn judge_pair<L: TransitionSystem, R: TransitionSystem, P: Pairing>(
 ) -> Option<Counterexample>
     requires leftmost { s < (L.TransitionSystem.meaning left.now).states }
     requires rightmost { t < (R.TransitionSystem.meaning right.now).states }
-    requires stands { standing pairing.now s t ≡ true }
+    requires stands { P.standing pairing.now s t ≡ true }
     requires wide { (L.TransitionSystem.meaning left.now).states ≤ length marks.old }
     requires high { (R.TransitionSystem.meaning right.now).states ≤ length marks.old }
     requires clean { Clean marks.old queue.old }
-    ensures judged { PairJudged (L.TransitionSystem.meaning left.now) (R.TransitionSystem.meaning right.now) (standing pairing.now) s t result }
+    ensures judged { PairJudged (L.TransitionSystem.meaning left.now) (R.TransitionSystem.meaning right.now) (P.standing pairing.now) s t result }
     ensures clean { Clean marks.new queue.new }
 {
     if let Some(place) = first_unanswered(left, right, pairing, s, t, marks, queue) {
@@ -99,7 +99,7 @@ fn judge_row<L: TransitionSystem, R: TransitionSystem, P: Pairing>(
     requires wide { (L.TransitionSystem.meaning left.now).states ≤ length marks.old }
     requires high { (R.TransitionSystem.meaning right.now).states ≤ length marks.old }
     requires clean { Clean marks.old queue.old }
-    ensures judged { RowJudged (L.TransitionSystem.meaning left.now) (R.TransitionSystem.meaning right.now) (standing pairing.now) s result }
+    ensures judged { RowJudged (L.TransitionSystem.meaning left.now) (R.TransitionSystem.meaning right.now) (P.standing pairing.now) s result }
     ensures clean { Clean marks.new queue.new }
 {
     let below = right.states();
@@ -124,7 +124,7 @@ pub(crate) fn judge_rows<L: TransitionSystem, R: TransitionSystem, P: Pairing>(
     requires wide { (L.TransitionSystem.meaning left.now).states ≤ length marks.old }
     requires high { (R.TransitionSystem.meaning right.now).states ≤ length marks.old }
     requires clean { Clean marks.old queue.old }
-    ensures judged { RowsJudged (L.TransitionSystem.meaning left.now) (R.TransitionSystem.meaning right.now) (standing pairing.now) result }
+    ensures judged { RowsJudged (L.TransitionSystem.meaning left.now) (R.TransitionSystem.meaning right.now) (P.standing pairing.now) result }
     ensures clean { Clean marks.new queue.new }
 {
     for s in 0..left.states() {

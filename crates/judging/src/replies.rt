@@ -34,10 +34,10 @@ fn reply_to<R: TransitionSystem, P: Pairing>(
     marks: &mut [u8],
     queue: &mut [u16],
 ) -> Reply
-    requires state { t < (meaning right.now).states }
-    requires fit { (meaning right.now).states ≤ length marks.old }
+    requires state { t < (R.meaning right.now).states }
+    requires fit { (R.meaning right.now).states ≤ length marks.old }
     requires clean { Clean marks.old queue.old }
-    ensures is { ReplyIs (meaning right.now) (standing pairing.now) s t want result }
+    ensures is { ReplyIs (R.meaning right.now) (P.standing pairing.now) s t want result }
     ensures clean { Clean marks.new queue.new }
 {
     if stays(pairing, want, t) {
@@ -65,10 +65,10 @@ fn reply_in<R: TransitionSystem, P: Pairing>(
     marks: &mut [u8],
     queue: &mut [u16],
 ) -> Reply
-    requires state { t < (meaning right.now).states }
-    requires fit { (meaning right.now).states ≤ length marks.old }
+    requires state { t < (R.meaning right.now).states }
+    requires fit { (R.meaning right.now).states ≤ length marks.old }
     requires long { length queue.old ≡ length marks.old }
-    ensures is { ReplyIs (meaning right.now) (standing pairing.now) s t want result }
+    ensures is { ReplyIs (R.meaning right.now) (P.standing pairing.now) s t want result }
     ensures clean { Clean marks.new queue.new }
 {
     marks.fill(0);
@@ -84,7 +84,7 @@ fn first_unpaired<L: TransitionSystem, R: TransitionSystem, P: Pairing>(
     s: usize,
     t: usize,
 ) -> Option<Fault>
-    ensures { result ≡ unpaired (L.TransitionSystem.meaning left.now).states (R.TransitionSystem.meaning right.now).states (standing pairing.now) s t }
+    ensures { result ≡ unpaired (L.TransitionSystem.meaning left.now).states (R.TransitionSystem.meaning right.now).states (P.standing pairing.now) s t }
 {
     if s >= left.states() || t >= right.states() {
         return Some(Fault::NoState);
@@ -102,7 +102,7 @@ fn asked<L: TransitionSystem, R: TransitionSystem, P: Pairing>(
     pairing: &P,
     ask: Ask,
 ) -> Result<Step, Fault>
-    ensures { Asks (L.TransitionSystem.meaning left.now) (R.TransitionSystem.meaning right.now) (standing pairing.now) ask result }
+    ensures { Asks (L.TransitionSystem.meaning left.now) (R.TransitionSystem.meaning right.now) (P.standing pairing.now) ask result }
 {
     if ask.side > 1 {
         return Err(Fault::NoSide);
@@ -131,7 +131,7 @@ pub fn reply<L: TransitionSystem, R: TransitionSystem, P: Pairing>(
     marks: &mut [u8],
     queue: &mut [u16],
 ) -> Result<Reply, Fault>
-    ensures { Replied (reply_refusal (L.TransitionSystem.meaning left.now) (R.TransitionSystem.meaning right.now) (standing pairing.now) (record { marks = marks.entry.now; queue = queue.old }) ask) (L.TransitionSystem.meaning left.now) (R.TransitionSystem.meaning right.now) (standing pairing.now) ask (record { marks = marks.entry.now; queue = queue.old }) (record { marks = marks.exit.now; queue = queue.new }) result }
+    ensures { Replied (reply_refusal (L.TransitionSystem.meaning left.now) (R.TransitionSystem.meaning right.now) (P.standing pairing.now) (record { marks = marks.entry.now; queue = queue.old }) ask) (L.TransitionSystem.meaning left.now) (R.TransitionSystem.meaning right.now) (P.standing pairing.now) ask (record { marks = marks.entry.now; queue = queue.old }) (record { marks = marks.exit.now; queue = queue.new }) result }
 {
     if let Some(fault) = unready(left, right, marks, queue) {
         return Err(fault);

@@ -10,7 +10,7 @@ use transitions::steps::Step;
 
 // Whether a step of the right start answers the step `want` of the left one.
 fn answers_root<R: TransitionSystem, P: Pairing>(right: &R, pairing: &P, want: Step) -> bool
-    ensures { Tells result (Rooted (meaning right.now) (standing pairing.now) want.action want.target) }
+    ensures { Tells result (Rooted (R.meaning right.now) (P.standing pairing.now) want.action want.target) }
 {
     let start = right.start();
     for place in 0..right.width() {
@@ -28,7 +28,7 @@ fn answers_root_place<L: TransitionSystem, R: TransitionSystem, P: Pairing>(
     pairing: &P,
     place: usize,
 ) -> bool
-    ensures { Tells result (AtRoot (L.TransitionSystem.meaning left.now) (R.TransitionSystem.meaning right.now) (standing pairing.now) (L.TransitionSystem.meaning left.now).start place) }
+    ensures { Tells result (AtRoot (L.TransitionSystem.meaning left.now) (R.TransitionSystem.meaning right.now) (P.standing pairing.now) (L.TransitionSystem.meaning left.now).start place) }
 {
     match left.step(left.start(), place) {
         Some(want) => answers_root(right, pairing, want),
@@ -42,7 +42,7 @@ pub(crate) fn first_unrooted<L: TransitionSystem, R: TransitionSystem, P: Pairin
     right: &R,
     pairing: &P,
 ) -> Option<usize>
-    ensures { Lowest (L.TransitionSystem.meaning left.now).width (AtRoot (L.TransitionSystem.meaning left.now) (R.TransitionSystem.meaning right.now) (standing pairing.now) (L.TransitionSystem.meaning left.now).start) result }
+    ensures { Lowest (L.TransitionSystem.meaning left.now).width (AtRoot (L.TransitionSystem.meaning left.now) (R.TransitionSystem.meaning right.now) (P.standing pairing.now) (L.TransitionSystem.meaning left.now).start) result }
 {
     for place in 0..left.width() {
         if !answers_root_place(left, right, pairing, place) {

@@ -20,7 +20,7 @@ fn judge_clean<L: TransitionSystem, R: TransitionSystem, P: Pairing>(
     requires wide { (L.TransitionSystem.meaning left.now).states ≤ length marks.old }
     requires high { (R.TransitionSystem.meaning right.now).states ≤ length marks.old }
     requires clean { Clean marks.old queue.old }
-    ensures is { VerdictIs (L.TransitionSystem.meaning left.now) (R.TransitionSystem.meaning right.now) (standing pairing.now) result }
+    ensures is { VerdictIs (L.TransitionSystem.meaning left.now) (R.TransitionSystem.meaning right.now) (P.standing pairing.now) result }
     ensures clean { Clean marks.new queue.new }
 {
     let s = left.start();
@@ -52,7 +52,7 @@ pub(crate) fn judge_in<L: TransitionSystem, R: TransitionSystem, P: Pairing>(
     requires wide { (L.TransitionSystem.meaning left.now).states ≤ length marks.old }
     requires high { (R.TransitionSystem.meaning right.now).states ≤ length marks.old }
     requires long { length queue.old ≡ length marks.old }
-    ensures is { VerdictIs (L.TransitionSystem.meaning left.now) (R.TransitionSystem.meaning right.now) (standing pairing.now) result }
+    ensures is { VerdictIs (L.TransitionSystem.meaning left.now) (R.TransitionSystem.meaning right.now) (P.standing pairing.now) result }
     ensures clean { Clean marks.new queue.new }
 {
     marks.fill(0);
