@@ -1,5 +1,5 @@
 -- What stands after a sheet that is not blank was opened.
-use Rattle.std.proofs.Common.{◌≡◌, ℕ, ◌≤◌, Bool, false, cond, List, length, sym, ap, ◌∙◌, subst, ap₂, Bor}
+use Rattle.std.proofs.Common.{◌≡◌, ℕ, ◌≤◌, Bool, false, cond, List, length, sym, ap, ◌∙◌, subst, ap₂, MutBor}
 use Rattle.judging.specs.Judged.{Wiped}
 use Rattle.transitions.specs.Lts.{Lts}
 use Rattle.sheets.specs.declared.sheet.Sheet.{Sheet}
@@ -8,7 +8,7 @@ use Rattle.sheets.specs.Calls.{blank, Opened}
 use Rattle.sheets.specs.Sheets.{in_force, rows_of, columns_of}
 use Rattle.sheets.proofs.Sizing.{none_stand, fitting, opening}
 
-module _ (L R : Lts) (bytes : Bor (List ℕ)) (v : Sheet) (el : v.size.rows ≡ L.states) (er : v.size.columns ≡ R.states) (some : blank v.size.rows v.size.columns ≡ false) (fits : needed v.size.rows v.size.columns ≤ length bytes.now) (long : length v.bytes.now ≡ length bytes.now) where
+module _ (L R : Lts) (bytes : MutBor (List ℕ)) (v : Sheet) (el : v.size.rows ≡ L.states) (er : v.size.columns ≡ R.states) (some : blank v.size.rows v.size.columns ≡ false) (fits : needed v.size.rows v.size.columns ≤ length bytes.now) (long : length v.bytes.now ≡ length bytes.now) where
   rows_kept : rows_of v ≡ v.size.rows
   rows_kept = ap (λ (k : ℕ). in_force v.size k v.size.rows) long ∙ fitting L R v.size (length bytes.now) el er some fits v.size.rows
 
