@@ -1,6 +1,6 @@
 -- Which communication lines, equations, terms and start a model file may hold. A file has at most 256 variables, and every
 -- variable here is below 256.
-use Rattle.std.specs.Prelude.{◌≡◌, ℕ, suc, ◌+◌, ◌%◌, ◌<◌, ◌≤◌, List, length, slice_index_or}
+use Rattle.std.specs.Prelude.{◌≡◌, ℕ, ◌+◌, ◌%◌, ◌<◌, ◌≤◌, List, length, slice_index_or}
 use mathlib.Core.List.{Memᴰ}
 use Rattle.rows.specs.Found.{Differ}
 use Rattle.processes.specs.Sameness.{same_equation, same_term}

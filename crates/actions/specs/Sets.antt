@@ -1,5 +1,4 @@
 -- The members of a set of actions.
-use Rattle.std.specs.Prelude.{ℕ, Bool}
 use Rattle.transitions.specs.Made.{Actions}
 use Rattle.transitions.specs.Communications.{of_mask}
 use Rattle.actions.specs.declared.sets.ActionSet.{ActionSet}

@@ -1,5 +1,5 @@
 -- From the calls to the promise.
-use Rattle.std.proofs.Common.{◌≡◌, ℕ, ◌<◌, ◌≤◌, max, Bool, true, false, cond, eqb, ltb, List, length, get_or, take, Some, None, Ok, Err, Option, Result, sym, refl, ap, ◌∙◌, subst, arith, MutBor}
+use Rattle.std.proofs.Common.{◌≡◌, ℕ, ◌<◌, ◌≤◌, max, Bool, true, false, cond, eqb, ltb, List, length, Some, None, Ok, Err, Option, Result, sym, refl, ap, ◌∙◌, subst, arith, MutBor}
 use base.Fml.{GName}
 use Rattle.std.proofs.lemmas.List.{take_all}
 use Rattle.std.proofs.lemmas.Bool.{and_parts, ltb-true}
@@ -7,8 +7,8 @@ use Rattle.auditing.specs.declared.audits.Said.{Said}
 use Rattle.auditing.specs.declared.calls.Answer.{Answer}
 use Rattle.auditing.specs.declared.calls.Call.{Call}
 use Rattle.auditing.specs.Plain.{plain}
-use Rattle.auditing.specs.Promise.{room_of, Sized, Means, Audited}
-use Rattle.auditing.proofs.Folding.{Frame, SoFar}
+use Rattle.auditing.specs.Promise.{room_of, Means, Audited}
+use Rattle.auditing.proofs.Folding.{SoFar}
 use Rattle.auditing.proofs.Lending.{ready, when_judged, when_replied, when_more, ended_at}
 use Rattle.judging.proofs.Replying.{both_none, paired}
 use Rattle.judging.specs.declared.replies.Ask.{Ask}
@@ -25,7 +25,6 @@ use Rattle.transitions.proofs.Relabel.{block_keeps, hide_keeps}
 use Rattle.transitions.proofs.Replying.{match_replies}
 use Rattle.transitions.specs.declared.replies.Reply.{Reply}
 use Rattle.transitions.specs.declared.replies.Reply.TheVariants.{Nothing}
-use Rattle.transitions.specs.declared.steps.Step.{Step}
 use Rattle.transitions.specs.declared.verdicts.Verdict.{Verdict}
 use Rattle.transitions.specs.declared.verdicts.Verdict.TheVariants.{Matches}
 use Rattle.transitions.specs.Lts.{Lts, Lawful}

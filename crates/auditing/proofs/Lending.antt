@@ -1,5 +1,5 @@
 -- A part of the scratch is lent.
-use Rattle.std.proofs.Common.{◌≡◌, ℕ, zero, suc, ◌+◌, ◌-◌, ◌<◌, ◌≤◌, min, max, Bool, true, false, cond, ◌&&◌, ◌||◌, eqb, ltb, List, [], ◌∷◌, ◌++◌, length, get_or, take, drop, Some, None, Ok, Err, Option, Result, sym, refl, ap, ◌∙◌, subst, inl, inr, ⊎_elim, arith, take-append-drop, length-take}
+use Rattle.std.proofs.Common.{◌≡◌, ℕ, ◌+◌, ◌-◌, ◌<◌, ◌≤◌, min, max, Bool, true, false, cond, ◌&&◌, ◌||◌, eqb, ltb, List, ◌++◌, length, get_or, take, drop, Some, None, Ok, Err, Option, Result, sym, refl, ap, ◌∙◌, subst, inl, inr, ⊎_elim, arith, take-append-drop, length-take}
 use native.Mathlib.Nat.{min-le_right, min-eq_left}
 use borrow.Rule.Slice.PartMut.{post_of}
 use Rattle.std.proofs.lemmas.List.{get_or_append_left, get_or-append_right, get_or-drop, get_or-take}
@@ -15,7 +15,7 @@ use Rattle.judging.specs.Judged.{Says, Wiped, Left, larger, short, too_few}
 use Rattle.judging.specs.Replies.{ReplySays}
 use Rattle.pairings.specs.declared.faults.Fault.{Fault}
 use Rattle.pairings.specs.declared.faults.Fault.TheVariants.{Blank, Sizes, Short}
-use Rattle.sheets.specs.Calls.{blank, unfit, or_else, judge_why}
+use Rattle.sheets.specs.Calls.{blank, unfit, judge_why}
 use Rattle.transitions.specs.declared.replies.Reply.{Reply}
 use Rattle.transitions.specs.declared.verdicts.Verdict.{Verdict}
 use Rattle.transitions.specs.Lts.{Lts}

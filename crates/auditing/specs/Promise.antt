@@ -1,5 +1,5 @@
 -- What is promised of every list of calls on a new sheet, and of every two models of its sizes.
-use Rattle.std.specs.Prelude.{◌≡◌, ℕ, ◌<◌, max, Bool, false, cond, ◌⊎◌, List, length, take, None, Ok, ◌≢◌, slice_index_or}
+use Rattle.std.specs.Prelude.{◌≡◌, ℕ, ◌<◌, max, false, cond, ◌⊎◌, List, length, take, None, Ok, ◌≢◌, slice_index_or}
 use Rattle.std.specs.Borrow.{MutBor}
 use Rattle.auditing.specs.declared.audits.Said.{Said}
 use Rattle.auditing.specs.declared.calls.Answer.{Answer}

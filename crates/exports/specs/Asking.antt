@@ -1,5 +1,5 @@
 -- What is told of a model.
-use Rattle.std.specs.Prelude.{◌≡◌, Bool, true, false, Some, None, Option}
+use Rattle.std.specs.Prelude.{◌≡◌, true, false, Some, None, Option}
 use Rattle.exports.specs.declared.asking.Question.{Question}
 use Rattle.exports.specs.declared.asking.Told.{Told}
 use Rattle.transitions.specs.Lts.{Lts}

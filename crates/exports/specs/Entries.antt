@@ -1,5 +1,4 @@
 -- The entries of terms and equations.
-use Rattle.std.specs.Prelude.{ℕ}
 use Rattle.exports.specs.declared.entries.EquationEntry.{EquationEntry}
 use Rattle.exports.specs.declared.entries.TermEntry.{TermEntry}
 use Rattle.processes.specs.Sameness.{sign, first, second}

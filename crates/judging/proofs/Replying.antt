@@ -7,7 +7,7 @@ use Rattle.transitions.specs.declared.steps.Step.{Step}
 use Rattle.transitions.specs.Lts.{Lts}
 use Rattle.transitions.specs.declared.replies.Reply.{Reply}
 use Rattle.transitions.specs.Match.{Pairing, flip}
-use Rattle.transitions.specs.Reply.{Stay, FitsAt, Move, ReplyIs}
+use Rattle.transitions.specs.Reply.{Stay, Move, ReplyIs}
 use Rattle.transitions.proofs.Computed.{hits}
 use Rattle.transitions.proofs.Reach.{decides_hits}
 use Rattle.judging.specs.declared.queries.Answer.{Answer}

@@ -1,5 +1,5 @@
 -- When two terms, or two lines of the equations, are the same: sign and operands agree.
-use Rattle.std.specs.Prelude.{ℕ, Bool, true, false, ◌&&◌, ◌==◌}
+use Rattle.std.specs.Prelude.{ℕ, Bool, false, ◌&&◌, ◌==◌}
 use Rattle.processes.specs.declared.equations.Equation.{Equation}
 use Rattle.processes.specs.declared.equations.Equation.TheVariants.{Ends, Becomes}
 use Rattle.processes.specs.declared.terms.Term.{Term}

@@ -7,7 +7,7 @@ use Rattle.std.proofs.lemmas.Bool.{cases_lt, leb-true, ltb-true, and_parts, and_
 use Rattle.transitions.specs.Lts.{Lts}
 use Rattle.transitions.specs.Match.{Pairing}
 use Rattle.sheets.specs.declared.size.Size.{Size}
-use Rattle.sheets.specs.Bits.{bit, needed, paired, with_bit, without_bit}
+use Rattle.sheets.specs.Bits.{needed, paired, with_bit, without_bit}
 use Rattle.sheets.specs.Calls.{no_pairs, adding, removing, in_range, blank, opens}
 use Rattle.sheets.specs.Sheets.{in_force, stood}
 use Rattle.sheets.proofs.Reading.{bit_read, bit_blank, has_byte, paired_in, out_left, out_right}

@@ -1,5 +1,5 @@
 -- Texts written one after another.
-use Rattle.std.proofs.Common.{◌≡◌, ℕ, ◌+◌, List, [], ◌∷◌, ◌++◌, length, set, decimal, sym, refl, ap, ◌∙◌, subst, ap₂, arith, length-append}
+use Rattle.std.proofs.Common.{◌≡◌, ℕ, ◌+◌, List, [], ◌∷◌, ◌++◌, length, set, decimal, sym, ◌∙◌, subst, ap₂, arith, length-append}
 use Rattle.texts.specs.Over.{over}
 use Rattle.texts.specs.Lines.{line, Done}
 use Rattle.texts.proofs.Laws.{over_nil, over_one, over_more}

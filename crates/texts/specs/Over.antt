@@ -1,5 +1,5 @@
 -- A list written over another.
-use Rattle.std.specs.Prelude.{◌≡◌, ℕ, zero, suc, List, [], ◌∷◌, ◌++◌}
+use Rattle.std.specs.Prelude.{ℕ, zero, suc, List, [], ◌∷◌}
 
 -- xs with ys written over it from place a on, as far as xs goes
 unfoldable pub over : List ℕ → ℕ → List ℕ → List ℕ

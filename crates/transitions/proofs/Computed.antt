@@ -1,5 +1,5 @@
 -- The verdict, computed.
-use Rattle.std.proofs.Common.{◌≡◌, ℕ, zero, suc, ◌<◌, Bool, true, false, cond, not, ◌&&◌, ◌||◌, eqb, Some, None, Option}
+use Rattle.std.proofs.Common.{ℕ, zero, suc, Bool, true, false, cond, not, ◌&&◌, ◌||◌, eqb, Some, None, Option}
 use Rattle.transitions.specs.declared.steps.Step.{Step}
 use Rattle.transitions.specs.declared.verdicts.Side.TheVariants.{Left, Right}
 use Rattle.transitions.specs.declared.verdicts.Counterexample.{Counterexample}

@@ -1,10 +1,9 @@
 -- The counter keeps the limits of a model, and has the steps of its rule.
-use Rattle.std.proofs.Common.{◌≡◌, ℕ, ◌+◌, ◌-◌, ◌<◌, ◌≤◌, Bool, true, false, cond, ◌&&◌, eqb, ltb, leb, ◌⊎◌, Some, None, sym, refl, ap, ◌∙◌, subst, ap₂, inl, inr, arith}
+use Rattle.std.proofs.Common.{◌≡◌, ℕ, ◌+◌, ◌-◌, ◌<◌, ◌≤◌, ◌⊎◌, Some, sym, refl, ap₂, inl, inr, arith}
 use mathlib.Core.Path.{subst₃}
 use Rattle.std.proofs.lemmas.Bool.Decides.{nat_tests}
 use Rattle.transitions.specs.declared.steps.Step.{Step}
-use Rattle.transitions.specs.Lts.{Lts, Lawful}
-use Rattle.transitions.specs.Made.{Visible}
+use Rattle.transitions.specs.Lts.{Lawful}
 use Rattle.transitions.specs.Counting.{counting, counting_step, Countable, Counts, CountsTo, CounterIs}
 use Rattle.transitions.specs.Counting.Counts.{takes, gives}
 

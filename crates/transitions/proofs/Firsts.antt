@@ -1,12 +1,12 @@
 -- What the loops of a judge know, turned into the verdict.
-use Rattle.std.proofs.Common.{◌≡◌, ℕ, zero, suc, ◌<◌, ◌≤◌, Bool, true, false, ◌⊎◌, List, [], ◌∷◌, sym, refl, ap, ◌∙◌, subst, inl, inr, arith}
+use Rattle.std.proofs.Common.{◌≡◌, ℕ, ◌<◌, ◌⊎◌, [], ◌∷◌, subst, inl, inr, arith}
 use Rattle.transitions.specs.declared.verdicts.Side.TheVariants.{Left, Right}
 use Rattle.transitions.specs.declared.verdicts.Counterexample.{Counterexample}
 use Rattle.transitions.specs.declared.verdicts.Counterexample.TheVariants.{StartMissing, StepUnanswered, EndUnanswered, RootUnanswered}
-use Rattle.transitions.specs.Lts.{Lts, Lawful, Silent, Steps}
+use Rattle.transitions.specs.Lts.{Lts, Silent, Steps}
 use Rattle.transitions.specs.Lts.Silent.{stay, go}
-use Rattle.transitions.specs.Match.{Pairing, flip, Stands, Match}
-use Rattle.transitions.specs.Verdict.{Holds, Proper, rank, Lex, Before, First}
+use Rattle.transitions.specs.Match.{Pairing, Stands}
+use Rattle.transitions.specs.Verdict.{Holds, Proper, rank, Lex, First}
 
 -- A search that is closed under silent steps has missed nothing: what a queue that ran empty shows.
 pub closed_whole : (L : Lts) (M : ℕ → Type 0) → ((s m : ℕ) → M s → Steps L s 0 m → M m) → {s m : ℕ} → Silent L s m → M s → M m

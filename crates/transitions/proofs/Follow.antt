@@ -1,10 +1,10 @@
 -- Each run of one model is followed in the other.
-use Rattle.std.proofs.Common.{◌≡◌, ℕ, zero, suc, ◌<◌, Bool, true, false, ◌⊎◌, List, [], ◌∷◌, sym, refl, ap, ◌∙◌, subst, inl, inr}
+use Rattle.std.proofs.Common.{◌≡◌, ℕ, zero, suc, ◌<◌, List, [], ◌∷◌, sym, refl, ap, ◌∙◌, inl, inr}
 use Rattle.transitions.specs.Lts.{Lts, Lawful, Steps, Silent, Run, shown}
 use Rattle.transitions.specs.Lts.Silent.{stay, go}
 use Rattle.transitions.specs.Lts.Run.{done, then}
-use Rattle.transitions.specs.Match.{Pairing, flip, Stands, Answered, Moves, Ended, Simulates, Match}
-use Rattle.transitions.specs.Theorems.{MayEnd, Follower, Followed, RunsFollowed}
+use Rattle.transitions.specs.Match.{Pairing, flip, Stands, Ended, Simulates}
+use Rattle.transitions.specs.Theorems.{MayEnd, Followed, RunsFollowed}
 
 pub shown_more : (a : ℕ) (xs ys : List ℕ) → shown xs ≡ shown ys → shown (a ∷ xs) ≡ shown (a ∷ ys)
 shown_more zero xs ys e = e

@@ -1,18 +1,16 @@
 -- The computed verdict is the one that the pairing has, and the only one.
 use Rattle.std.proofs.Common.{◌≡◌, ℕ, zero, suc, ◌<◌, ◌≤◌, Bool, true, false, cond, not, ◌||◌, eqb, ◌⊎◌, List, [], ◌∷◌, length, get_or, Some, None, Decides, Option, sym, refl, ap, ◌∙◌, subst, subst₂, inl, inr, ⊎_elim, arith}
 use Rattle.std.proofs.lemmas.Bool.{false≢true, cases_eq, cases_order}
-use Rattle.transitions.specs.declared.steps.Step.{Step}
-use Rattle.transitions.specs.declared.verdicts.Side.{Side}
 use Rattle.transitions.specs.declared.verdicts.Side.TheVariants.{Left, Right}
 use Rattle.transitions.specs.declared.verdicts.Counterexample.{Counterexample}
 use Rattle.transitions.specs.declared.verdicts.Counterexample.TheVariants.{StartMissing, StepUnanswered, EndUnanswered, RootUnanswered}
 use Rattle.transitions.specs.declared.verdicts.Verdict.{Verdict}
 use Rattle.transitions.specs.declared.verdicts.Verdict.TheVariants.{Matches, Fails}
 use Rattle.transitions.specs.Lts.{Lts, Lawful}
-use Rattle.transitions.specs.Match.{Pairing, flip, Stands, Simulates, Match}
+use Rattle.transitions.specs.Match.{Pairing, flip, Match}
 use Rattle.transitions.specs.Verdict.{Holds, Proper, rank, Lex, Before, First, VerdictIs}
 use Rattle.transitions.specs.Theorems.{VerdictsExact}
-use Rattle.transitions.proofs.Computed.{or_else, first, test, place_ok, end_ok, root_ok, broken_in_pair, first_broken, verdict_of, verdict}
+use Rattle.transitions.proofs.Computed.{or_else, first, test, place_ok, root_ok, broken_in_pair, first_broken, verdict_of, verdict}
 use Rattle.transitions.proofs.Reach.{decides_place, decides_end, decides_root, decides_given}
 
 -- ---- a search through conditions in order

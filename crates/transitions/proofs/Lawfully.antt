@@ -1,15 +1,15 @@
 -- What is made of lawful models is lawful.
-use Rattle.std.proofs.Common.{◌≡◌, ℕ, zero, suc, ◌+◌, ◌-◌, ◌*◌, ◌/◌, ◌%◌, ◌<◌, ◌≤◌, Bool, true, false, cond, ◌&&◌, eqb, ltb, leb, ◌⊎◌, Some, None, Option, sym, refl, ap, ◌∙◌, subst, inl, inr, arith}
+use Rattle.std.proofs.Common.{◌≡◌, ℕ, ◌+◌, ◌*◌, ◌/◌, ◌%◌, ◌<◌, ◌≤◌, ◌&&◌, ltb, leb, Some, None, Option, refl, inl, inr, arith}
 use lib.Arith.{digits_lt}
-use Rattle.std.proofs.lemmas.Bool.{cases_Bool, ltb-true, ltb-false, leb-true, false≢true, and_parts}
+use Rattle.std.proofs.lemmas.Bool.{cases_Bool, ltb-true, leb-true, false≢true, and_parts}
 use Rattle.std.proofs.lemmas.Nat.{div_below, mod_below}
 use Rattle.transitions.specs.declared.steps.Step.{Step}
-use Rattle.transitions.specs.Lts.{Lts, Lawful, Steps}
-use Rattle.transitions.specs.Made.{Actions, Change, Joins, Communication, changed, relabel, dropping, silencing, block, hide, pair, merged, joined, empty, room, merge}
+use Rattle.transitions.specs.Lts.{Lts, Lawful}
+use Rattle.transitions.specs.Made.{Actions, Change, Joins, Communication, relabel, dropping, silencing, block, hide, merged, joined, empty, room, merge}
 use Rattle.transitions.specs.Rules.{Joint}
 use Rattle.transitions.specs.Rules.Joint.{by_left, by_right, by_both}
 use Rattle.transitions.proofs.Relabel.{back}
-use Rattle.transitions.proofs.Merging.{Split, joined_back, product_pos}
+use Rattle.transitions.proofs.Merging.{joined_back, product_pos}
 
 none_some : (x : Step) → None ≡ Some x → ⊥
 none_some x e = let z : ◌≡◌ {A = ℕ} 0 1 = cc in omega arith

@@ -1,15 +1,15 @@
 -- Merging both models with a third one keeps a match.
-use Rattle.std.proofs.Common.{◌≡◌, ℕ, zero, suc, ◌+◌, ◌-◌, ◌*◌, ◌/◌, ◌%◌, ◌<◌, ◌≤◌, Bool, true, false, cond, ◌&&◌, eqb, ltb, leb, ◌⊎◌, Some, None, Option, sym, refl, ap, ◌∙◌, subst, ap₂, subst₂, inl, inr, mod-lt, mul-zero, div-add-mod', arith}
+use Rattle.std.proofs.Common.{◌≡◌, ℕ, zero, suc, ◌+◌, ◌-◌, ◌*◌, ◌/◌, ◌%◌, ◌<◌, true, ◌&&◌, eqb, ltb, Some, None, Option, sym, refl, ap, ◌∙◌, subst, inl, inr, mul-zero, div-add-mod', arith}
 use mathlib.Core.Path.{subst₃, fun_ext}
 use lib.Arith.{digits_lt, digits_div, digits_mod}
-use Rattle.std.proofs.lemmas.Bool.{cases_Bool, ltb-true, ltb-false, lt-ltb, le-ltb, eqb-true, eq-eqb, and_parts, and_from}
+use Rattle.std.proofs.lemmas.Bool.{cases_Bool, ltb-true, lt-ltb, le-ltb, eqb-true, eq-eqb, and_parts}
 use Rattle.std.proofs.lemmas.Bool.Decides.{nat_tests}
-use Rattle.std.proofs.lemmas.Nat.{div_below, mod_below, mul-add-lt}
+use Rattle.std.proofs.lemmas.Nat.{div_below, mod_below}
 use Rattle.transitions.specs.declared.steps.Step.{Step}
 use Rattle.transitions.specs.Lts.{Lts, Lawful, Steps, Silent}
 use Rattle.transitions.specs.Lts.Silent.{stay, go}
-use Rattle.transitions.specs.Match.{Pairing, flip, Stands, Answered, Moves, Ended, Rooted, Simulates, Match}
-use Rattle.transitions.specs.Made.{Joins, Communication, leading, pair, on_left, on_right, on_both, merged, joined, empty, room, merge, beside}
+use Rattle.transitions.specs.Match.{Pairing, flip, Stands, Answered, Moves, Rooted, Simulates, Match}
+use Rattle.transitions.specs.Made.{Joins, Communication, pair, on_left, on_right, on_both, merged, joined, room, merge, beside}
 use Rattle.transitions.proofs.Relabel.{leading_back}
 use Rattle.transitions.proofs.Follow.{silent_in}
 use Rattle.transitions.specs.Rules.{Joint}

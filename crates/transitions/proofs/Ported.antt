@@ -1,9 +1,9 @@
 -- The port communication keeps the three laws, and joins what its rule says.
-use Rattle.std.proofs.Common.{◌≡◌, ℕ, ◌+◌, ◌*◌, ◌/◌, ◌%◌, ◌<◌, Bool, true, false, cond, ◌&&◌, ◌⊎◌, Some, None, sym, refl, ap, ◌∙◌, inl, inr, arith}
+use Rattle.std.proofs.Common.{◌≡◌, ℕ, ◌+◌, ◌*◌, ◌/◌, ◌%◌, ◌<◌, ◌⊎◌, Some, inl, inr, arith}
 use mathlib.Core.Path.{subst₃}
 use Rattle.std.proofs.lemmas.Bool.Decides.{nat_tests}
 use Rattle.transitions.specs.Made.{Communication}
-use Rattle.transitions.specs.Communications.{port_joins, sends, Ported, ByPorts}
+use Rattle.transitions.specs.Communications.{port_joins, Ported, ByPorts}
 use Rattle.transitions.specs.Communications.Ported.{send_first, receive_first}
 
 pub ports_lawful : Communication port_joins

@@ -1,11 +1,11 @@
 -- What the tests of a verdict decide.
-use Rattle.std.proofs.Common.{◌≡◌, ℕ, zero, suc, ◌<◌, ◌≤◌, Bool, true, false, cond, not, ◌&&◌, ◌||◌, eqb, ◌⊎◌, Some, None, Decides, Option, sym, refl, ap, ◌∙◌, subst, ap₂, inl, inr, arith}
-use Rattle.std.proofs.lemmas.Bool.{false≢true, eqb-true, eq-eqb, cases_eq, and_parts, and_from, or_cases, or_left, or_right, not-true, not_from_false, cases_Bool}
-use Rattle.std.proofs.lemmas.Bool.Decides.{Decides-eqb, Decides-and, Decides-or, Decides-like, Decides-not, Decides-below_or}
+use Rattle.std.proofs.Common.{◌≡◌, ℕ, zero, suc, ◌<◌, Bool, true, false, not, ◌&&◌, ◌||◌, eqb, Some, None, Decides, Option, sym, refl, ap, subst, ap₂, inl, inr, arith}
+use Rattle.std.proofs.lemmas.Bool.{false≢true, eqb-true, eq-eqb, cases_eq, and_parts, and_from, or_cases, or_left, or_right}
+use Rattle.std.proofs.lemmas.Bool.Decides.{Decides-eqb, Decides-and, Decides-or, Decides-like, Decides-below_or}
 use Rattle.transitions.specs.declared.steps.Step.{Step}
 use Rattle.transitions.specs.Lts.{Lts, Lawful, Steps, Silent}
 use Rattle.transitions.specs.Lts.Silent.{stay, go}
-use Rattle.transitions.specs.Match.{Pairing, flip, Stands, Answered, Moves, Ended, Rooted}
+use Rattle.transitions.specs.Match.{Pairing, Stands, Answered, Rooted}
 use Rattle.transitions.specs.Verdict.{AtPlace, AtEnd, AtRoot}
 use Rattle.transitions.proofs.Computed.{any, is_silent_to, reach, hits, answered, place_ok, end_ok, root_ok}
 use Rattle.transitions.proofs.Follow.{silent_in}

@@ -1,9 +1,9 @@
 -- A change of actions that leaves the silent one keeps a match. Blocking and hiding are such changes.
-use Rattle.std.proofs.Common.{◌≡◌, ℕ, zero, suc, ◌<◌, Bool, true, false, cond, ◌⊎◌, Some, None, Option, sym, refl, ap, ◌∙◌, subst, inl, inr, arith}
+use Rattle.std.proofs.Common.{◌≡◌, ℕ, false, Some, None, Option, ap, inl, inr, arith}
 use Rattle.transitions.specs.declared.steps.Step.{Step}
 use Rattle.transitions.specs.Lts.{Lts, Steps, Silent}
 use Rattle.transitions.specs.Lts.Silent.{stay, go}
-use Rattle.transitions.specs.Match.{Pairing, flip, Stands, Answered, Moves, Ended, Rooted, Simulates, Match}
+use Rattle.transitions.specs.Match.{Pairing, flip, Answered, Simulates, Match}
 use Rattle.transitions.specs.Made.{Actions, Change, leading, changed, relabel, dropping, silencing, block, hide}
 
 -- A step of the changed model is a changed step.

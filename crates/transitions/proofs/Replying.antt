@@ -1,9 +1,8 @@
 -- Over a match there is always a reply.
-use Rattle.std.proofs.Common.{◌≡◌, ℕ, ◌<◌, subst}
+use Rattle.std.proofs.Common.{subst}
 use Rattle.transitions.specs.Lts.{Lts}
-use Rattle.transitions.specs.Match.{Pairing, flip, Simulates, Match}
+use Rattle.transitions.specs.Match.{Pairing, flip, Simulates}
 use Rattle.transitions.specs.declared.replies.Reply.{Reply}
-use Rattle.transitions.specs.declared.replies.Reply.TheVariants.{Nothing}
 use Rattle.transitions.specs.Reply.{ReplyIs, AlwaysReplies, MatchReplies}
 
 replies : (L R : Lts) (B : Pairing) → Simulates L R B → AlwaysReplies L R B

@@ -1,5 +1,5 @@
 -- The sets of actions, and the port communication.
-use Rattle.std.specs.Prelude.{◌≡◌, ℕ, ◌+◌, ◌*◌, ◌/◌, ◌%◌, ◌^◌, ◌<◌, Bool, cond, ◌&&◌, Some, None, Option, ◌==◌, nat_lt}
+use Rattle.std.specs.Prelude.{◌≡◌, ℕ, ◌+◌, ◌*◌, ◌/◌, ◌%◌, ◌^◌, ◌<◌, Bool, cond, ◌&&◌, Some, None, ◌==◌, nat_lt}
 use Rattle.transitions.specs.Made.{Actions, Joins}
 use Rattle.transitions.specs.Rules.{Iff}
 

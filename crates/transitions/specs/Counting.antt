@@ -1,5 +1,5 @@
 -- The counter of places taken and given back.
-use Rattle.std.specs.Prelude.{◌≡◌, ℕ, ◌+◌, ◌-◌, ◌<◌, ◌≤◌, Bool, true, false, cond, ◌&&◌, Some, None, Option, ◌==◌, nat_lt}
+use Rattle.std.specs.Prelude.{◌≡◌, ℕ, ◌+◌, ◌-◌, ◌<◌, ◌≤◌, true, cond, ◌&&◌, Some, None, Option, ◌==◌, nat_lt}
 use Rattle.transitions.specs.declared.steps.Step.{Step}
 use Rattle.transitions.specs.Lts.{Lts}
 use Rattle.transitions.specs.Made.{Visible}

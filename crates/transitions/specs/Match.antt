@@ -1,5 +1,5 @@
 -- When a pairing of the states of two models is a match of them: a rooted branching bisimulation.
-use Rattle.std.specs.Prelude.{◌≡◌, ℕ, ◌<◌, Bool, true, false, ◌⊎◌}
+use Rattle.std.specs.Prelude.{◌≡◌, ℕ, ◌<◌, Bool, true, ◌⊎◌}
 use Rattle.transitions.specs.Lts.{Lts, Steps, Silent}
 
 -- Which states of a left and a right model are set side by side.

@@ -1,5 +1,5 @@
 -- What is proved of made systems, matches and verdicts.
-use Rattle.std.specs.Prelude.{◌≡◌, ℕ, ◌<◌, Bool, true, false, List}
+use Rattle.std.specs.Prelude.{◌≡◌, ℕ, ◌<◌, true, false, List}
 use Rattle.transitions.specs.declared.verdicts.Verdict.{Verdict}
 use Rattle.transitions.specs.Lts.{Lts, Lawful, Silent, Run, shown}
 use Rattle.transitions.specs.Match.{Pairing, flip, Stands, Match}

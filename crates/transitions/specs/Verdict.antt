@@ -1,5 +1,5 @@
 -- The verdict on a pairing: a match, or the first condition broken, in one order.
-use Rattle.std.specs.Prelude.{◌≡◌, ℕ, ◌<◌, Bool, true, false, ◌⊎◌, List, [], ◌∷◌, Some}
+use Rattle.std.specs.Prelude.{◌≡◌, ℕ, ◌<◌, true, ◌⊎◌, List, [], ◌∷◌, Some}
 use Rattle.transitions.specs.declared.steps.Step.{Step}
 use Rattle.transitions.specs.declared.verdicts.Side.{Side}
 use Rattle.transitions.specs.declared.verdicts.Side.TheVariants.{Left, Right}

@@ -4,4 +4,4 @@
 #[cfg(test)]
 mod refusals;
 #[cfg(test)]
-mod texts;
+mod written;

@@ -1,4 +1,4 @@
-use Rattle.std.proofs.Common.{◌≡◌, ℕ, suc, ◌<◌, List}
+use Rattle.std.proofs.Common.{◌≡◌, ℕ, suc, List}
 use Rattle.acceptance.specs.Walks.{walk, some?, silent_ring}
 use Rattle.acceptance.specs.Walks.{Marks}
 use Rattle.acceptance.proofs.rings.has_no_ring.Given as goal

@@ -1,4 +1,4 @@
-use Rattle.std.proofs.Common.{◌≡◌, ◌+◌, ◌<◌, length, drop, refl, ap, ◌∙◌, arith, length-set, rules}
+use Rattle.std.proofs.Common.{◌+◌, drop, refl, arith}
 use Rattle.std.proofs.lemmas.List.{at_drop_all}
 use Rattle.acceptance.specs.Walks.{targets}
 use Rattle.processes.specs.declared.equations.Equation.TheVariants.{Ends}

@@ -1,4 +1,4 @@
-use Rattle.std.proofs.Common.{◌≡◌, ℕ, ◌<◌, true, false, ◌||◌, length, get_or, drop}
+use Rattle.std.proofs.Common.{◌≡◌, ℕ, ◌<◌, false, ◌||◌, length, get_or, drop}
 use Rattle.acceptance.specs.Walks.{targets, member}
 use Rattle.acceptance.proofs.rings.targets_of.Given as goal
 

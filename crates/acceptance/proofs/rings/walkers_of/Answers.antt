@@ -1,4 +1,4 @@
-use Rattle.std.proofs.Common.{◌≡◌, ◌+◌, ◌<◌, true, ◌||◌, length, drop, sym, refl, ap, ◌∙◌, arith, length-set}
+use Rattle.std.proofs.Common.{◌≡◌, ◌+◌, true, ◌||◌, length, drop, sym, refl, ap, ◌∙◌, arith, length-set}
 use Rattle.std.proofs.lemmas.List.{at_drop_all}
 use Rattle.acceptance.specs.Walks.{walkers, some?}
 use Rattle.processes.specs.declared.equations.Equation.TheVariants.{Ends}

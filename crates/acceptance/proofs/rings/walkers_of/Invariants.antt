@@ -1,4 +1,4 @@
-use Rattle.std.proofs.Common.{◌≡◌, ℕ, ◌<◌, true, false, ◌||◌, List, length, get_or, drop}
+use Rattle.std.proofs.Common.{◌≡◌, ℕ, ◌<◌, false, ◌||◌, List, length, get_or, drop}
 use Rattle.acceptance.specs.Walks.{walkers, member, some?}
 use Rattle.acceptance.specs.Walks.{Marks}
 use Rattle.acceptance.proofs.rings.walkers_of.Given as goal

@@ -1,4 +1,4 @@
-use Rattle.std.proofs.Common.{◌≡◌, ℕ, List, sym, ap, ◌∙◌, subst, rules}
+use Rattle.std.proofs.Common.{◌≡◌, ℕ, List, sym, ap, ◌∙◌, subst}
 use Rattle.auditing.specs.declared.calls.Answer.{Answer}
 use Rattle.auditing.specs.Telling.{Room}
 use Rattle.auditing.proofs.Folding.{so_far_none, so_far_more, Wrote, wrote_in, wrote_past}

@@ -1,4 +1,4 @@
-use Rattle.auditing.proofs.Folding.{Frame, SoFar}
+use Rattle.auditing.proofs.Folding.{SoFar}
 use Rattle.sheets.specs.Sheets.{rows_of, columns_of}
 use Rattle.auditing.proofs.audits.audit.Given as goal
 

@@ -1,10 +1,9 @@
-use Rattle.std.proofs.Common.{◌≡◌, subst}
+use Rattle.std.proofs.Common.{subst}
 use Rattle.auditing.specs.Telling.{Room}
 use Rattle.auditing.proofs.Lending.{part_lent, lent_marks, lent_queue, when_more, when_replied, by_reply}
 use Rattle.judging.proofs.Replying.{both_none}
-use Rattle.judging.specs.Judged.{Says}
 use Rattle.judging.specs.Replies.{ReplySays}
-use Rattle.sheets.specs.Calls.{judge_why, without_why, reply_why, removing}
+use Rattle.sheets.specs.Calls.{reply_why}
 use Rattle.sheets.specs.Sheets.{rows_of, columns_of, standing}
 use Rattle.auditing.proofs.making.reply_lent.Goals as goal
 

@@ -1,5 +1,4 @@
 use Rattle.transitions.specs.Following.{Repeats}
-use Rattle.transitions.specs.Lts.{Lts}
 use Rattle.models.proofs.following.follow.Given as goal
 
 abbrev pub invariant-loop-made : goal.invariant-loop-made

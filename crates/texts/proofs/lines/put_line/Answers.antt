@@ -1,4 +1,4 @@
-use Rattle.std.proofs.Common.{◌≡◌, ◌+◌, [], ◌∷◌, ◌++◌, length, set, decimal, refl, arith, length-set}
+use Rattle.std.proofs.Common.{◌+◌, [], ◌∷◌, ◌++◌, set, decimal, refl, arith, length-set}
 use Rattle.texts.proofs.Writing.{line_long, done_none, done_byte, done_over}
 use Rattle.texts.proofs.lines.put_line.Goals as goal
 

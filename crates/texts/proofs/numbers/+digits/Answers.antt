@@ -1,4 +1,4 @@
-use Rattle.std.proofs.Common.{◌≡◌, sym, refl, ap, ◌∙◌, arith}
+use Rattle.std.proofs.Common.{sym, arith}
 use Rattle.texts.proofs.Laws.{long_digit, long_step}
 use Rattle.texts.proofs.numbers.+digits.Goals as goal
 

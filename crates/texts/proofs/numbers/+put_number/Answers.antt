@@ -1,4 +1,4 @@
-use Rattle.std.proofs.Common.{◌≡◌, ◌+◌, ◌%◌, set, sym, refl, ap, ◌∙◌, arith}
+use Rattle.std.proofs.Common.{◌∙◌, arith}
 use Rattle.texts.proofs.Laws.{long_digit, long_step, last_digit, next_digit}
 use Rattle.texts.proofs.numbers.+put_number.Goals as goal
 
