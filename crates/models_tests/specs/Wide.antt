@@ -1,7 +1,6 @@
 -- A model of one state, with no step and no end.
-use Rattle.std.specs.Prelude.{◌≡◌, ℕ, ◌<◌, ◌≤◌, true, false, Some, None, refl}
+use Rattle.std.specs.Prelude.{◌≡◌, ℕ, ◌≤◌, false, None}
 use Rattle.std.proofs.Common.{arith}
-use Rattle.transitions.specs.declared.steps.Step.{Step}
 use Rattle.transitions.specs.Lts.{Lts, Lawful}
 
 abbrev pub wide : ℕ → Lts

@@ -1,4 +1,4 @@
-// The program of docs/TUTORIAL.md: a house rule and two tills, read from text, unfolded, paired and judged.
+// A house rule and two tills, read from text, unfolded, paired and judged.
 #![tactic(auto)]
 
 mod loading;
