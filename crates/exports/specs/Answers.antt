@@ -12,13 +12,16 @@ use Rattle.pairings.specs.Faults.{number}
 use Rattle.pairings.specs.declared.faults.Fault.{Fault}
 use Rattle.processes.specs.declared.equations.Equation.{Equation}
 use Rattle.processes.specs.declared.terms.Term.{Term}
-use Rattle.tables.specs.Text.{IsText}
+use Rattle.tables.specs.Meanings.{of_table}
+use Rattle.tables.specs.Text.{text_of, IsText}
+use Rattle.tables.specs.declared.steps_table.Table.{Table}
 use Rattle.transitions.specs.Verdict.{figures}
 use Rattle.transitions.specs.declared.lines.JoinLine.{JoinLine}
 use Rattle.transitions.specs.declared.replies.Reply.{Reply}
 use Rattle.transitions.specs.declared.replies.Reply.TheVariants.{Stays, Moves, Nothing}
 use Rattle.transitions.specs.declared.steps.Step.{Step}
 use Rattle.transitions.specs.declared.verdicts.Verdict.{Verdict}
+use Rattle.unfolding.specs.Model.{IsModel}
 use Rattle.unfolding.specs.Promise.{IsUnfolded}
 use Rattle.unfolding.specs.Refusals.{refusal_number}
 use Rattle.unfolding.specs.declared.counts.Counts.{Counts}
@@ -48,9 +51,10 @@ abbrev pub Unfolds : List JoinLine → ℕ → List Step → List Step → List 
 Unfolds lines start steps steps' ends ends' a =
     (es : List Equation) × (file : List Term) × (ts : List Term) × (ts' : List Term) × (q : Result Counts Refusal) × (IsUnfolded lines es file start ts ts' steps steps' ends ends' q × (a ≡ of_unfolding q))
 
--- The answer tells of a text written into this buffer.
-abbrev pub Writes : List ℕ → List ℕ → Writing → Type 0
-Writes buffer buffer' a = (text : List ℕ) × (q : Result ℕ Refusal) × (IsText buffer buffer' text q × (a ≡ of_writing q))
+-- The answer tells of the text of a table made of these row ends, steps and counts, written into this buffer.
+abbrev pub Writes : List ℕ → List Step → Counts → List ℕ → List ℕ → Writing → Type 0
+Writes ends steps n buffer buffer' a =
+    (v : Table) × (q : Result ℕ Refusal) × (IsModel steps ends n (of_table v) × (IsText buffer buffer' (text_of v) q × (a ≡ of_writing q)))
 
 -- ---- calls on a sheet
 

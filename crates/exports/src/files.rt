@@ -202,7 +202,7 @@ pub extern "C" fn dimityrock_write(
     start: usize,
     text: &mut [u8],
 ) -> Writing
-    ensures { Writes text.old text.new result }
+    ensures { Writes ends.now steps.now (record { terms = terms; steps = count; start = start }) text.old text.new result }
 {
     let table = Table::new(
         ends,
