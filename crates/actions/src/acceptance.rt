@@ -4,17 +4,17 @@ ghost use Rattle.transitions.specs.Listed.{line_at, Once, VisibleLine, Acceptabl
 ghost use Rattle.transitions.specs.Made.{Visible};
 
 use crate::grouping::is_associative;
-use rows::find_same;
+use crate::lines::is_named;
 use transitions::lines::JoinLine;
 
 fn is_visible(a: u8) -> bool
     ensures { Decides result (Visible a) }
 {
-    0 < a && a < 64
+    (1..64).contains(&a)
 }
 
-fn visible_line(line: JoinLine) -> bool
-    ensures { Decides result (VisibleLine line) }
+fn is_visible_line(line: &JoinLine) -> bool
+    ensures { Decides result (VisibleLine line.now) }
 {
     is_visible(line.a) && is_visible(line.b) && is_visible(line.joint)
 }
@@ -22,20 +22,15 @@ fn visible_line(line: JoinLine) -> bool
 fn all_visible(lines: &[JoinLine]) -> bool
     ensures { Decides result ((k : ℕ) → k < length lines.now → VisibleLine (line_at lines.now k)) }
 {
-    for line in lines {
-        if !visible_line(*line) {
-            return false;
-        }
-    }
-    true
+    lines.iter().all(|line| is_visible_line(line))
 }
 
 // Whether no two lines name the same pair.
 fn names_once(lines: &[JoinLine]) -> bool
     ensures { Decides result (Once lines.now) }
 {
-    for k in 0..lines.len() {
-        if find_same(&lines[0..k], &lines[k]).is_some() {
+    for (k, line) in lines.iter().enumerate() {
+        if is_named(&lines[..k], line.a, line.b) {
             return false;
         }
     }

@@ -6,7 +6,7 @@ ghost use Rattle.transitions.specs.Communications.{ByPorts, sends};
 
 use crate::communications::Communication;
 
-#[derive(Clone, Copy)]
+#[derive(Clone, Copy, Debug, PartialEq, Eq)]
 pub struct Ports;
 
 impl Ports {

@@ -1,11 +1,9 @@
 // A line of the equations of variables: what a variable does.
-ghost use Rattle.std.specs.Prelude.{◌≡◌};
-ghost use Rattle.processes.specs.Sameness.{same_equation};
 ghost use Rattle.std.proofs.Common.{rules};
 
-use rows::Same;
+use rows::Exact;
 
-#[derive(Clone, Copy)]
+#[derive(Clone, Copy, Debug, PartialEq, Eq)]
 pub enum Equation {
     // The variable does the action and ends.
     Ends(u8, u8),
@@ -13,25 +11,7 @@ pub enum Equation {
     Becomes(u8, u8, u8),
 }
 
-impl Same for Equation {
-    ghost same = { same_equation };
-
-    ghost reflexive = { Prim.search rules };
-
-    ghost symmetric = { Prim.search rules };
-
-    ghost transitive = { Prim.search rules };
-
-    fn is_same(&self, other: &Equation) -> bool {
-        match *self {
-            Equation::Ends(x, a) => match *other {
-                Equation::Ends(y, b) => x == y && a == b,
-                Equation::Becomes(_, _, _) => false,
-            },
-            Equation::Becomes(x, a, z) => match *other {
-                Equation::Ends(_, _) => false,
-                Equation::Becomes(y, b, w) => x == y && a == b && z == w,
-            },
-        }
-    }
+// Two lines are equal where they say the same.
+impl Exact for Equation {
+    ghost exact = { Prim.search rules };
 }

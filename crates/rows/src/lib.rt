@@ -1,41 +1,27 @@
-// Lists of entries: the search for an entry that is the same as another, the question whether all differ, and clearing.
+// Lists of entries: the search for an entry, the question whether all differ, and clearing.
 #![tactic(auto)]
 
-ghost use Rattle.std.specs.Prelude.{◌≡◌, ℕ, Bool, true, Decides, slice_index_or};
+ghost use Rattle.std.specs.Prelude.{◌≡◌, ℕ, true, Decides, slice_index_or};
 ghost use Rattle.rows.specs.Found.{Differ, Found};
 
-// Entries of which one can say whether two are the same.
-pub trait Same {
-    ghost same: { Self → Self → Bool };
-
-    fn is_same(&self, other: &Self) -> bool
-        ensures { result ≡ same self.now other.now };
-
-    ghost reflexive: { (x : Self) → same x x ≡ true };
-
-    ghost symmetric: { (x y : Self) → same x y ≡ true → same y x ≡ true };
-
-    ghost transitive: { (x y z : Self) → same x y ≡ true → same y z ≡ true → same x z ≡ true };
+// Entries that are equal only where they are one and the same.
+pub trait Exact: Eq {
+    ghost exact: { (x y : Self) → Self.eq x y ≡ true → x ≡ y };
 }
 
-// The lowest place whose entry is the same as x.
-pub fn find_same<T: Same>(entries: &[T], x: &T) -> Option<usize>
-    ensures { Found T.same entries.now x.now result }
+// The lowest place that holds x.
+pub fn find_same<T: Exact>(entries: &[T], x: &T) -> Option<usize>
+    ensures { Found entries.now x.now result }
 {
-    for (i, entry) in entries.iter().enumerate() {
-        if entry.is_same(x) {
-            return Some(i);
-        }
-    }
-    None
+    entries.iter().position(|entry| entry == x)
 }
 
-// Whether no entry is the same as an earlier one.
-pub fn all_differ<T: Same>(entries: &[T]) -> bool
-    ensures { Decides result (Differ T.same entries.now) }
+// Whether no entry stands at two places.
+pub fn all_differ<T: Exact>(entries: &[T]) -> bool
+    ensures { Decides result (Differ entries.now) }
 {
-    for k in 0..entries.len() {
-        if find_same(&entries[0..k], &entries[k]).is_some() {
+    for (k, entry) in entries.iter().enumerate() {
+        if entries[..k].contains(entry) {
             return false;
         }
     }
@@ -46,7 +32,7 @@ pub fn all_differ<T: Same>(entries: &[T]) -> bool
 pub fn clear<T: Copy>(table: &mut [T], zero: T)
     ensures { (k : ℕ) → slice_index_or table.new k zero ≡ zero }
 {
-    for i in 0..table.len() {
-        table[i] = zero;
+    for entry in table {
+        *entry = zero;
     }
 }

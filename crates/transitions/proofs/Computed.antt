@@ -1,13 +1,12 @@
 -- The verdict, computed.
-use Rattle.std.proofs.Common.{ℕ, zero, suc, Bool, true, false, cond, not, ◌&&◌, ◌||◌, eqb, Some, None, Option}
+use Rattle.std.proofs.Common.{ℕ, zero, suc, Bool, true, false, cond, not, ◌&&◌, ◌||◌, eqb, Some, None, Option, Ok, Err}
 use Rattle.transitions.specs.declared.steps.Step.{Step}
 use Rattle.transitions.specs.declared.verdicts.Side.TheVariants.{Left, Right}
 use Rattle.transitions.specs.declared.verdicts.Counterexample.{Counterexample}
 use Rattle.transitions.specs.declared.verdicts.Counterexample.TheVariants.{StartMissing, StepUnanswered, EndUnanswered, RootUnanswered}
-use Rattle.transitions.specs.declared.verdicts.Verdict.{Verdict}
-use Rattle.transitions.specs.declared.verdicts.Verdict.TheVariants.{Matches, Fails}
 use Rattle.transitions.specs.Lts.{Lts}
 use Rattle.transitions.specs.Match.{Pairing, flip}
+use Rattle.transitions.specs.Verdict.{Verdict}
 
 abbrev pub any : ℕ → (ℕ → Bool) → Bool
 any zero f = false
@@ -68,8 +67,8 @@ first_broken L R B =
     (first R.width (λ p. test (root_ok L (flip B) (R.step R.start p)) (RootUnanswered L.start R.start Right p)))))
 
 abbrev pub verdict_of : Option Counterexample → Verdict
-verdict_of None = Matches
-verdict_of (Some k) = Fails k
+verdict_of None = Ok tt
+verdict_of (Some k) = Err k
 
 abbrev pub verdict : Lts → Lts → Pairing → Verdict
 verdict L R B = verdict_of (first_broken L R B)

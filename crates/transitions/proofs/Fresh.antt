@@ -1,10 +1,9 @@
 -- No pair is named twice where each line is fresh: no line before it names its pair.
-use Rattle.std.proofs.Common.{◌≡◌, ℕ, ◌<◌, true, false, List, length, get_or, is_some, Some, None, Option, sym, refl, ◌∙◌, subst, inl, inr, arith}
-use native.Mathlib.Numerals.{unary_clauses}
+use Rattle.std.proofs.Common.{◌≡◌, ℕ, ◌<◌, ◌≤◌, Bool, true, false, List, length, get_or, take, sym, refl, ◌∙◌, subst, inl, inr, arith}
+use Rattle.std.proofs.lemmas.Bool.{both_ways, cases_Bool}
 use Rattle.std.proofs.lemmas.List.{get_or-take, get_or_default, length-take-le}
-use Rattle.std.proofs.lemmas.Bool.{true≢false, false≢true, both_ways}
-use Rattle.std.specs.List.{between}
-use Rattle.rows.specs.Found.{Found}
+use Rattle.std.proofs.lemmas.List.Folds.{Any-from_list_any, list_any_at}
+use Rattle.std.specs.List.{list_any}
 use Rattle.transitions.specs.declared.lines.JoinLine.{JoinLine}
 use Rattle.transitions.specs.Listed.{line_at, Names, Once, names}
 use Rattle.transitions.proofs.Listing.{named}
@@ -23,21 +22,22 @@ pub all_fresh : (lines : List JoinLine) → ((k : ℕ) → k < length lines → 
 all_fresh lines fresh j k a b l h n m =
     both_ways _ (fresh k h j l) ((named (line_at lines j) (line_at lines k).a (line_at lines k).b).1 (meet (line_at lines j) (line_at lines k) a b n m))
 
--- What the search of the lines before place k tells.
+-- What the lines before place k say of the pair that the line there names.
 module _ (lines : List JoinLine) (k : ℕ) (l : k < length lines) where
-  at_part : (j : ℕ) → j < k → get_or (between 0 k lines) j (line_at lines k) ≡ line_at lines j
-  at_part j h = simp unary_clauses (get_or-take k lines j (line_at lines k) h ∙ get_or_default lines j (line_at lines k) (record { a = 0; b = 0; joint = 0 }) (omega arith))
+  abbrev pub named_before : Bool
+  named_before = list_any (λ (x : JoinLine). names x (line_at lines k).a (line_at lines k).b) (take k lines)
 
-  length_part : length (between 0 k lines) ≡ k
-  length_part = simp unary_clauses (length-take-le k lines (omega arith))
+  pub fresh : named_before ≡ false → Fresh lines k
+  fresh e j h =
+      elim (cases_Bool (names (line_at lines j) (line_at lines k).a (line_at lines k).b)) [
+        | inl t ↦ absurd (both_ways named_before e (list_any_at _ (take k lines) j (record { a = 0; b = 0; joint = 0 }) (omega (arith, length-take-le k lines (omega arith))) (rw (get_or-take k lines j (record { a = 0; b = 0; joint = 0 }) h) t)))
+        | inr f ↦ f
+      ]
 
-  pub fresh : (o : Option ℕ) → Found (λ (x y : JoinLine). names x y.a y.b) (between 0 k lines) (line_at lines k) o → is_some o ≡ false → Fresh lines k
-  fresh None f e j h = subst (λ (x : JoinLine). names x (line_at lines k).a (line_at lines k).b ≡ false) (at_part j h) (f j (omega (arith, length_part)))
-  fresh (Some i) f e j h = absurd (true≢false e)
-
-  pub repeated : (o : Option ℕ) → Found (λ (x y : JoinLine). names x y.a y.b) (between 0 k lines) (line_at lines k) o → is_some o ≡ true → Once lines → ⊥
-  repeated None f e once = false≢true e
-  repeated (Some i) (h, n, before) e once =
-      let i-below : i < k = omega (arith, length_part) in
-      let m : names (line_at lines i) (line_at lines k).a (line_at lines k).b ≡ true = subst (λ (x : JoinLine). names x (line_at lines k).a (line_at lines k).b ≡ true) (at_part i i-below) n in
-      once i k (line_at lines k).a (line_at lines k).b i-below l ((named (line_at lines i) (line_at lines k).a (line_at lines k).b).0 m) (inl (refl, refl))
+  pub repeated : named_before ≡ true → Once lines → ⊥
+  repeated e once =
+      let w = Any-from_list_any (λ (x : JoinLine). names x (line_at lines k).a (line_at lines k).b) (take k lines) e in
+      let below : w.0 < k = omega (arith, length-take-le k lines (omega arith)) in
+      let line : line_at lines w.0 ≡ w.1 = sym (get_or-take k lines w.0 (record { a = 0; b = 0; joint = 0 }) below) ∙ get_or_default (take k lines) w.0 (record { a = 0; b = 0; joint = 0 }) w.1 w.2 ∙ w.3 in
+      let said : names (line_at lines w.0) (line_at lines k).a (line_at lines k).b ≡ true = rw line w.4 in
+      once w.0 k (line_at lines k).a (line_at lines k).b below l ((named (line_at lines w.0) (line_at lines k).a (line_at lines k).b).0 said) (inl (refl, refl))

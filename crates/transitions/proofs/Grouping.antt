@@ -15,10 +15,10 @@ abbrev pub Regroups : List JoinLine → ℕ → ℕ → ℕ → ℕ → Type 0
 Regroups lines a b c r = after (listed_joins lines a) (listed_joins lines b c) ≡ Some r
 
 -- What the first line joins, and then the second with an action more, can be grouped the other way.
-abbrev pub PairRegroups : List JoinLine → JoinLine → JoinLine → Type 0
+unfoldable pub PairRegroups : List JoinLine → JoinLine → JoinLine → Type 0
 PairRegroups lines first second = (a b c : ℕ) → Names first a b → Names second first.joint c → Regroups lines a b c second.joint
 
-abbrev pub LineRegroups : List JoinLine → JoinLine → Type 0
+unfoldable pub LineRegroups : List JoinLine → JoinLine → Type 0
 LineRegroups lines first = (k : ℕ) → k < length lines → PairRegroups lines first (line_at lines k)
 
 abbrev pub AllRegroup : List JoinLine → Type 0
@@ -27,11 +27,17 @@ AllRegroup lines = (j : ℕ) → j < length lines → LineRegroups lines (line_a
 -- Where the second line names c beside the joint of the first, two looks tell.
 pub two_looks : (lines : List JoinLine) (first second : JoinLine) (c : ℕ) → ((x : ℕ) → Iff (Some c ≡ Some x) (Names second first.joint x))
     → Iff (PairRegroups lines first second) (Regroups lines first.a first.b c second.joint × Regroups lines first.b first.a c second.joint)
+unfolding PairRegroups
 two_looks lines first second c only = (λ all. (all _ _ c (inl (refl, refl)) ((only c).0 refl), all _ _ c (inr (refl, refl)) ((only c).0 refl)), λ w. back w)
   where
     back : Regroups lines first.a first.b c second.joint × Regroups lines first.b first.a c second.joint → PairRegroups lines first second
     back (h, k) a b x (inl (e, f)) m = let q = (only x).1 m in subst₃ (λ u v w. Regroups lines u v w second.joint) e f (cc) h
     back (h, k) a b x (inr (e, f)) m = let q = (only x).1 m in subst₃ (λ u v w. Regroups lines u v w second.joint) f e (cc) k
+
+-- Where it names none, there is nothing to look at.
+pub no_looks : (lines : List JoinLine) (first second : JoinLine) → ((x : ℕ) → Names second first.joint x → ⊥) → PairRegroups lines first second
+unfolding PairRegroups
+no_looks lines first second none a b x n m = absurd (none x m)
 
 after_some : (f : ℕ → Option ℕ) (o : Option ℕ) (r : ℕ) → after f o ≡ Some r → (d : ℕ) × (o ≡ Some d) × (f d ≡ Some r)
 after_some f None r e = absurd (none_some r e)
@@ -42,6 +48,7 @@ some_after f o d r e h = rw e h
 
 -- The test tells of every three actions.
 pub associative : (lines : List JoinLine) → AllRegroup lines → Associative lines
+unfolding PairRegroups LineRegroups
 associative lines all a b c r = (there a b c, λ w. back w)
   where
     there : (a b c : ℕ) → ((d : ℕ) × Said lines a b d × Said lines d c r) → (d : ℕ) × Said lines b c d × Said lines a d r
@@ -56,6 +63,7 @@ associative lines all a b c r = (there a b c, λ w. back w)
 
 -- And where no pair is named twice, associative lines pass it.
 pub all_regroup : (lines : List JoinLine) → Once lines → Associative lines → AllRegroup lines
+unfolding PairRegroups LineRegroups
 all_regroup lines once assoc j lj k lk a b c n m =
     let s : Said lines a b (line_at lines j).joint = record { place = j; within = lj; names = n; joint = refl } in
     let t : Said lines (line_at lines j).joint c (line_at lines k).joint = record { place = k; within = lk; names = m; joint = refl } in

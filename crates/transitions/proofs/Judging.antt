@@ -1,14 +1,12 @@
 -- The computed verdict is the one that the pairing has, and the only one.
-use Rattle.std.proofs.Common.{◌≡◌, ℕ, zero, suc, ◌<◌, ◌≤◌, Bool, true, false, cond, not, ◌||◌, eqb, ◌⊎◌, List, [], ◌∷◌, length, get_or, Some, None, Decides, Option, sym, refl, ap, ◌∙◌, subst, subst₂, inl, inr, ⊎_elim, arith}
+use Rattle.std.proofs.Common.{◌≡◌, ℕ, zero, suc, ◌<◌, ◌≤◌, Bool, true, false, cond, not, ◌||◌, eqb, ◌⊎◌, List, [], ◌∷◌, length, get_or, Some, None, Decides, Option, Ok, Err, sym, refl, ap, ◌∙◌, subst, subst₂, inl, inr, ⊎_elim, arith}
 use Rattle.std.proofs.lemmas.Bool.{false≢true, cases_eq, cases_order}
 use Rattle.transitions.specs.declared.verdicts.Side.TheVariants.{Left, Right}
 use Rattle.transitions.specs.declared.verdicts.Counterexample.{Counterexample}
 use Rattle.transitions.specs.declared.verdicts.Counterexample.TheVariants.{StartMissing, StepUnanswered, EndUnanswered, RootUnanswered}
-use Rattle.transitions.specs.declared.verdicts.Verdict.{Verdict}
-use Rattle.transitions.specs.declared.verdicts.Verdict.TheVariants.{Matches, Fails}
 use Rattle.transitions.specs.Lts.{Lts, Lawful}
 use Rattle.transitions.specs.Match.{Pairing, flip, Match}
-use Rattle.transitions.specs.Verdict.{Holds, Proper, rank, Lex, Before, First, VerdictIs}
+use Rattle.transitions.specs.Verdict.{Verdict, Holds, Proper, rank, Lex, Before, First, VerdictIs}
 use Rattle.transitions.specs.Theorems.{VerdictsExact}
 use Rattle.transitions.proofs.Computed.{or_else, first, test, place_ok, root_ok, broken_in_pair, first_broken, verdict_of, verdict}
 use Rattle.transitions.proofs.Reach.{decides_place, decides_end, decides_root, decides_given}
@@ -296,10 +294,10 @@ same_first L R B j k v w =
     ]
 
 one_verdict : (L R : Lts) (lawL : Lawful L) (lawR : Lawful R) (B : Pairing) (v w : Verdict) → VerdictIs L R B v → VerdictIs L R B w → v ≡ w
-one_verdict L R lawL lawR B Matches Matches g h = refl
-one_verdict L R lawL lawR B Matches (Fails k) g h = absurd (h.broken (match_holds L R lawL lawR B g k h.proper))
-one_verdict L R lawL lawR B (Fails j) Matches g h = absurd (g.broken (match_holds L R lawL lawR B h j g.proper))
-one_verdict L R lawL lawR B (Fails j) (Fails k) g h = ap Fails (same_first L R B j k g h)
+one_verdict L R lawL lawR B (Ok u) (Ok v) g h = refl
+one_verdict L R lawL lawR B (Ok u) (Err k) g h = absurd (h.broken (match_holds L R lawL lawR B g k h.proper))
+one_verdict L R lawL lawR B (Err j) (Ok u) g h = absurd (g.broken (match_holds L R lawL lawR B h j g.proper))
+one_verdict L R lawL lawR B (Err j) (Err k) g h = ap Err (same_first L R B j k g h)
 
 pub verdicts_exact : VerdictsExact
 verdicts_exact L R lawL lawR B =

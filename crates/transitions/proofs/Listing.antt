@@ -1,5 +1,5 @@
 -- What lines say is what the first line that names a pair gives, where no pair is named twice.
-use Rattle.std.proofs.Common.{◌≡◌, ℕ, zero, suc, ◌<◌, Bool, true, false, cond, List, [], ◌∷◌, length, get_or, Some, None, Decides, Option, refl, ap, ◌∙◌, inl, inr, arith}
+use Rattle.std.proofs.Common.{◌≡◌, ℕ, zero, suc, ◌<◌, Bool, true, false, cond, List, [], ◌∷◌, length, get_or, Some, None, Decides, Option, option_map, find, refl, ap, ◌∙◌, inl, inr, arith}
 use Rattle.std.proofs.lemmas.Bool.{cases_Bool, cond-true, cond-false}
 use Rattle.std.proofs.lemmas.Bool.Decides.{nat_tests, Decides-and, Decides-or, Decides-eqb}
 use Rattle.transitions.specs.declared.lines.JoinLine.{JoinLine}
@@ -33,6 +33,12 @@ pub no_joint : (d : JoinLine) (lines : List JoinLine) (a b : ℕ) → ((j : ℕ)
 unfolding listed_joins
 no_joint d [] a b h = refl
 no_joint d (line ∷ lines) a b h = cond-false _ _ _ (h 0 (omega arith)) ∙ no_joint d lines a b (λ j i. h (suc j) (omega arith))
+
+-- the joint of the first line that a search finds
+pub found_joint : (lines : List JoinLine) (a b : ℕ) → option_map (λ (l : JoinLine). l.joint) (find (λ (l : JoinLine). names l a b) lines) ≡ listed_joins lines a b
+unfolding listed_joins
+found_joint [] a b = refl
+found_joint (line ∷ lines) a b = elim (names line a b) as (λ t. option_map (λ (l : JoinLine). l.joint) (cond t (Some line) (find (λ (l : JoinLine). names l a b) lines)) ≡ cond t (Some line.joint) (listed_joins lines a b)) [ true ↦ refl | false ↦ found_joint lines a b ]
 
 -- what is joined is said
 pub joined_said : (lines : List JoinLine) (a b c : ℕ) → listed_joins lines a b ≡ Some c → Said lines a b c

@@ -1,8 +1,8 @@
 -- How one state of a pair replies to a step of the other.
-use Rattle.std.specs.Prelude.{◌≡◌, ℕ, ◌<◌, ◌≢◌, Some}
+use Rattle.std.specs.Prelude.{◌≡◌, ℕ, ◌<◌, ◌≢◌, Some, None, Option}
 use Rattle.transitions.specs.declared.steps.Step.{Step}
 use Rattle.transitions.specs.declared.replies.Reply.{Reply}
-use Rattle.transitions.specs.declared.replies.Reply.TheVariants.{Stays, Moves, Nothing}
+use Rattle.transitions.specs.declared.replies.Reply.TheVariants.{Stays, Moves}
 use Rattle.transitions.specs.Lts.{Lts, Silent}
 use Rattle.transitions.specs.Match.{Pairing, flip, Stands, Answered, Match}
 
@@ -22,16 +22,16 @@ pub record Move (R : Lts) (B : Pairing) (s t : ℕ) (x : Step) (m p : ℕ) : Typ
   pub fits : FitsAt R B x m p
   pub lowest : (q : ℕ) → q < p → FitsAt R B x m q → ⊥
 
--- What it means that r is the reply of t to the step x of s. It is nothing only where there is no answer.
-abbrev pub ReplyIs : Lts → Pairing → ℕ → ℕ → Step → Reply → Type 0
-ReplyIs R B s t x Stays = Stay B x t
-ReplyIs R B s t x (Moves m p) = Move R B s t x m p
-ReplyIs R B s t x Nothing = Answered R B s t x.action x.target → ⊥
+-- What it means that r is the reply of t to the step x of s. There is none only where there is no answer.
+abbrev pub ReplyIs : Lts → Pairing → ℕ → ℕ → Step → Option Reply → Type 0
+ReplyIs R B s t x (Some Stays) = Stay B x t
+ReplyIs R B s t x (Some (Moves m p)) = Move R B s t x m p
+ReplyIs R B s t x None = Answered R B s t x.action x.target → ⊥
 
--- To each step of a left state the right state of every standing pair has a reply other than nothing.
+-- To each step of a left state the right state of every standing pair has a reply.
 abbrev pub AlwaysReplies : Lts → Lts → Pairing → Type 0
 AlwaysReplies L R B =
-    (s t p : ℕ) (x : Step) → s < L.states → t < R.states → Stands B s t → L.step s p ≡ Some x → (r : Reply) → ReplyIs R B s t x r → r ≢ Nothing
+    (s t p : ℕ) (x : Step) → s < L.states → t < R.states → Stands B s t → L.step s p ≡ Some x → (r : Option Reply) → ReplyIs R B s t x r → r ≢ None
 
 -- Over a match there is always a reply, from either side.
 abbrev pub MatchReplies : Type 0

@@ -1,11 +1,10 @@
 -- What is proved of made systems, matches and verdicts.
 use Rattle.std.specs.Prelude.{◌≡◌, ℕ, ◌<◌, true, false, List}
-use Rattle.transitions.specs.declared.verdicts.Verdict.{Verdict}
 use Rattle.transitions.specs.Lts.{Lts, Lawful, Silent, Run, shown}
 use Rattle.transitions.specs.Match.{Pairing, flip, Stands, Match}
 use Rattle.transitions.specs.Made.{Actions, Joins, Communication, block, hide, merge}
 use Rattle.transitions.specs.Rules.{Blocks, Hides, Merges}
-use Rattle.transitions.specs.Verdict.{VerdictIs}
+use Rattle.transitions.specs.Verdict.{Verdict, VerdictIs}
 
 -- After silent steps of s there is a state that may end.
 abbrev pub MayEnd : Lts → ℕ → Type 0

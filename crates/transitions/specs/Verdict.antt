@@ -1,12 +1,10 @@
 -- The verdict on a pairing: a match, or the first condition broken, in one order.
-use Rattle.std.specs.Prelude.{◌≡◌, ℕ, ◌<◌, true, ◌⊎◌, List, [], ◌∷◌, Some}
+use Rattle.std.specs.Prelude.{◌≡◌, ℕ, ◌<◌, true, ◌⊎◌, List, [], ◌∷◌, Some, Ok, Err, Result}
 use Rattle.transitions.specs.declared.steps.Step.{Step}
 use Rattle.transitions.specs.declared.verdicts.Side.{Side}
 use Rattle.transitions.specs.declared.verdicts.Side.TheVariants.{Left, Right}
 use Rattle.transitions.specs.declared.verdicts.Counterexample.{Counterexample}
 use Rattle.transitions.specs.declared.verdicts.Counterexample.TheVariants.{StartMissing, StepUnanswered, EndUnanswered, RootUnanswered}
-use Rattle.transitions.specs.declared.verdicts.Verdict.{Verdict}
-use Rattle.transitions.specs.declared.verdicts.Verdict.TheVariants.{Matches, Fails}
 use Rattle.transitions.specs.declared.verdicts.Figures.{Figures}
 use Rattle.transitions.specs.Lts.{Lts}
 use Rattle.transitions.specs.Match.{Pairing, flip, Stands, Answered, Ended, Rooted, Match}
@@ -70,10 +68,14 @@ pub record First (L R : Lts) (B : Pairing) (k : Counterexample) : Type 0 where
   pub broken : Holds L R B k → ⊥
   pub earlier : (j : Counterexample) → Proper L R j → Before j k → Holds L R B j
 
+-- A verdict: a match, or a counterexample.
+abbrev pub Verdict : Type 0
+Verdict = Result (Unit {0}) Counterexample
+
 -- What the verdict on a pairing is.
 abbrev pub VerdictIs : Lts → Lts → Pairing → Verdict → Type 0
-VerdictIs L R B Matches = Match L R B
-VerdictIs L R B (Fails k) = First L R B k
+VerdictIs L R B (Ok _) = Match L R B
+VerdictIs L R B (Err k) = First L R B k
 
 -- ---- the figures of a verdict
 
@@ -85,8 +87,8 @@ side_number Right = 1
 -- The kind of a verdict and its numbers, unused ones 0: a match is kind 0, a missing start pair 1, a step unanswered 2, an end
 -- unanswered 3, a root step unanswered 4.
 abbrev pub figures : Verdict → Figures
-figures Matches = record { kind = 0; left = 0; right = 0; side = 0; place = 0 }
-figures (Fails (StartMissing s t)) = record { kind = 1; left = s; right = t; side = 0; place = 0 }
-figures (Fails (StepUnanswered s t h p)) = record { kind = 2; left = s; right = t; side = side_number h; place = p }
-figures (Fails (EndUnanswered s t h)) = record { kind = 3; left = s; right = t; side = side_number h; place = 0 }
-figures (Fails (RootUnanswered s t h p)) = record { kind = 4; left = s; right = t; side = side_number h; place = p }
+figures (Ok _) = record { kind = 0; left = 0; right = 0; side = 0; place = 0 }
+figures (Err (StartMissing s t)) = record { kind = 1; left = s; right = t; side = 0; place = 0 }
+figures (Err (StepUnanswered s t h p)) = record { kind = 2; left = s; right = t; side = side_number h; place = p }
+figures (Err (EndUnanswered s t h)) = record { kind = 3; left = s; right = t; side = side_number h; place = 0 }
+figures (Err (RootUnanswered s t h p)) = record { kind = 4; left = s; right = t; side = side_number h; place = p }

@@ -1,28 +1,20 @@
 // A line of a communication: it lets the actions a and b join to the action `joint`.
-ghost use Rattle.transitions.specs.Listed.{names};
-ghost use Rattle.std.proofs.Common.{rules};
-
-use rows::Same;
-
 #[repr(C)]
-#[derive(Clone, Copy)]
+#[derive(Clone, Copy, Debug, PartialEq, Eq)]
 pub struct JoinLine {
     pub a: u8,
     pub b: u8,
     pub joint: u8,
 }
 
-// Two lines are the same where they name the same pair, in either order.
-impl Same for JoinLine {
-    ghost same = { λ x y. names x y.a y.b };
+impl JoinLine {
+    ghost use Rattle.std.specs.Prelude.{◌≡◌};
+    ghost use Rattle.transitions.specs.Listed.{names};
 
-    ghost reflexive = { Prim.search rules };
-
-    ghost symmetric = { Prim.search rules };
-
-    ghost transitive = { Prim.search rules };
-
-    fn is_same(&self, other: &JoinLine) -> bool {
-        (self.a == other.a && self.b == other.b) || (self.a == other.b && self.b == other.a)
+    // Whether the line names a and b, in either order.
+    pub fn names(&self, a: u8, b: u8) -> bool
+        ensures { result ≡ names self.now a b }
+    {
+        (self.a == a && self.b == b) || (self.a == b && self.b == a)
     }
 }

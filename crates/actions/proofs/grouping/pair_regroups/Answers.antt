@@ -1,7 +1,6 @@
 use Rattle.std.proofs.Common.{refl}
 use Rattle.std.proofs.lemmas.Bool.{both_ways}
-use Rattle.transitions.proofs.Listing.{none_some}
-use Rattle.transitions.proofs.Grouping.{two_looks}
+use Rattle.transitions.proofs.Grouping.{two_looks, no_looks}
 use Rattle.actions.proofs.grouping.pair_regroups.Goals as goal
 
 pub returns-then-regroups : goal.returns-then-regroups
@@ -16,5 +15,5 @@ returns-else-regroups c =
     let looks = two_looks c.args.lines.now c.args.first c.args.second c.in-Some.c c.in-Some.ensures in
     (λ e. absurd (both_ways _ c.if-regroups.false e), λ all. c.regroups.ensures.1 (looks.0 all).0)
 
-pub returns-in-None : goal.returns-in-None
-returns-in-None c = (λ _ a b x n m. absurd (none_some x ((c.in-None.ensures x).1 m)), λ _. refl)
+pub returns-in_default : goal.returns-in_default
+returns-in_default c = (λ _. no_looks c.args.lines.now c.args.first c.args.second (λ x m. c.in_default.not-Some x ((c.partner.ensures x).1 m)), λ _. refl)

@@ -1,7 +1,7 @@
 use Rattle.std.proofs.Common.{refl}
 use Rattle.std.proofs.lemmas.Bool.Decides.{not_from_Decides}
 use Rattle.transitions.proofs.Grouping.{none_acceptable, by_acceptable, by_refused}
-use Rattle.actions.proofs.listed.joining.accepted_part.Goals as goal
+use Rattle.actions.proofs.listed.accepted_part.Goals as goal
 
 pub returns-then-is_acceptable : goal.returns-then-is_acceptable
 returns-then-is_acceptable c =
