@@ -9,20 +9,14 @@ fn equation_fits(equation: Equation) -> bool
     ensures { Decides result (EquationFits equation) }
 {
     match equation {
-        Equation::Ends(_x, a) => a < 64,
-        Equation::Becomes(_x, a, _y) => a < 64,
+        Equation::Ends(_, a) | Equation::Becomes(_, a, _) => a < 64,
     }
 }
 
 pub(crate) fn equations_fit(equations: &[Equation]) -> bool
     ensures { Decides result ((k : ℕ) → k < length equations.now → EquationFits (equation_at equations.now k)) }
 {
-    for equation in equations {
-        if !equation_fits(*equation) {
-            return false;
-        }
-    }
-    true
+    equations.iter().all(|equation| equation_fits(*equation))
 }
 
 pub(crate) fn is_earlier(n: usize, p: usize) -> bool
@@ -49,25 +43,21 @@ fn term_fits(n: usize, term: Term) -> bool
 {
     match term {
         Term::Action(a) => a < 64,
-        Term::Deadlock => true,
-        Term::Variable(_x) => true,
-        Term::Choice(p, q) => are_earlier(n, p, q),
-        Term::Sequence(p, q) => are_earlier(n, p, q),
-        Term::Merge(p, q) => are_earlier(n, p, q),
-        Term::LeftMerge(p, q) => are_earlier(n, p, q),
-        Term::CommMerge(p, q) => are_earlier(n, p, q),
-        Term::Block(p, set) => is_over_set(n, p, set),
-        Term::Hide(p, set) => is_over_set(n, p, set),
+        Term::Deadlock | Term::Variable(_) => true,
+        Term::Choice(p, q)
+        | Term::Sequence(p, q)
+        | Term::Merge(p, q)
+        | Term::LeftMerge(p, q)
+        | Term::CommMerge(p, q) => are_earlier(n, p, q),
+        Term::Block(p, set) | Term::Hide(p, set) => is_over_set(n, p, set),
     }
 }
 
 pub(crate) fn terms_fit(terms: &[Term]) -> bool
     ensures { Decides result ((k : ℕ) → k < length terms.now → TermFits (k + 1) (entry_at terms.now k)) }
 {
-    for k in 0..terms.len() {
-        if !term_fits(k + 1, terms[k]) {
-            return false;
-        }
-    }
-    true
+    terms
+        .iter()
+        .enumerate()
+        .all(|(k, term)| term_fits(k + 1, *term))
 }
