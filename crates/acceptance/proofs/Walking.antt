@@ -1,11 +1,12 @@
 -- The silent walks, line by line and round by round.
-use Rattle.std.proofs.Common.{◌≡◌, ℕ, zero, suc, ◌+◌, ◌<◌, Bool, true, false, cond, ◌&&◌, ◌||◌, eqb, ◌⊎◌, List, [], ◌∷◌, length, get_or, drop, set, replicate, sym, refl, ap, ◌∙◌, inl, inr, arith}
+use Rattle.std.proofs.Common.{◌≡◌, ℕ, zero, suc, ◌+◌, ◌<◌, Bool, true, false, cond, ◌&&◌, ◌||◌, eqb, ◌⊎◌, List, [], ◌∷◌, length, get_or, drop, set, replicate, Option, subst, sym, refl, ap, ◌∙◌, inl, inr, arith}
 use Rattle.std.proofs.lemmas.List.{at_drop_more, get_or-set_same, get_or-set_other, length-set}
 use Rattle.std.proofs.lemmas.Bool.{cases_eq, eq-eqb, ne_eqb, and_left, and_right, and_from}
+use Rattle.std.specs.Bool.{then_some}
 use Rattle.acceptance.specs.Walks.{member, targets, walkers, walk, some?}
 use Rattle.processes.specs.declared.equations.Equation.{Equation}
 use Rattle.processes.specs.declared.equations.Equation.TheVariants.{Ends, Becomes}
-use Rattle.acceptance.specs.Walks.{Marks}
+use Rattle.acceptance.specs.Walks.{Marks, MarksOf}
 
 pub or_false : (b : Bool) → (b || false) ≡ b
 or_false true = refl
@@ -77,6 +78,10 @@ found_past f old rest all e h = ap (λ r. f || some? r) (sym e) ∙ h
 
 pub found_all : (f : Bool) (old all : List ℕ) → old ≡ [] → (f || some? old) ≡ some? all → f ≡ some? all
 found_all f old all e h = sym (or_false f) ∙ ap (λ r. f || some? r) (sym e) ∙ h
+
+pub marks_of : (f : Bool) (next : List Bool) (all : List ℕ) (r : Option (List Bool)) → r ≡ then_some f next → Marks next all → f ≡ some? all → MarksOf r all
+marks_of true next all r e m h = subst (λ o. MarksOf o all) (sym e) (m, sym h)
+marks_of false next all r e m h = subst (λ o. MarksOf o all) (sym e) (sym h)
 
 none_marked : (n y : ℕ) → get_or (replicate n false) y false ≡ false
 none_marked zero y = refl

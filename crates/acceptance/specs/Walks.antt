@@ -1,5 +1,5 @@
 -- The search for silent rings, computed: from which variables a silent walk of so many steps starts.
-use Rattle.std.specs.Prelude.{◌≡◌, ℕ, zero, suc, ◌<◌, Bool, true, false, cond, ◌&&◌, ◌||◌, List, [], ◌∷◌, length, ◌==◌, nat_eq, slice_index_or}
+use Rattle.std.specs.Prelude.{◌≡◌, ℕ, zero, suc, ◌<◌, Bool, true, false, cond, ◌&&◌, ◌||◌, List, [], ◌∷◌, length, Some, None, Option, ◌==◌, nat_eq, slice_index_or}
 use Rattle.processes.specs.declared.equations.Equation.{Equation}
 use Rattle.processes.specs.declared.equations.Equation.TheVariants.{Ends, Becomes}
 
@@ -35,3 +35,8 @@ silent_ring E = some? (walk E (suc (length E)) (targets E))
 -- the marks are those of the variables in A
 abbrev pub Marks : List Bool → List ℕ → Type 0
 Marks marks A = (y : ℕ) → y < 256 → slice_index_or marks y false ≡ member y A
+
+-- the marks of the variables in A, or none where A is empty
+abbrev pub MarksOf : Option (List Bool) → List ℕ → Type 0
+MarksOf (Some marks) A = Marks marks A × (some? A ≡ true)
+MarksOf None A = some? A ≡ false

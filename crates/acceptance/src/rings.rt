@@ -1,7 +1,7 @@
 // Whether silent lines of the equations run in a ring.
-ghost use Rattle.std.specs.Prelude.{◌≡◌, ℕ, List, Decides};
+ghost use Rattle.std.specs.Prelude.{ℕ, List, Decides};
 ghost use Rattle.acceptance.specs.Accepted.{NoRing};
-ghost use Rattle.acceptance.specs.Walks.{Marks, targets, walkers, some?};
+ghost use Rattle.acceptance.specs.Walks.{Marks, MarksOf, targets, walkers};
 
 use processes::equations::Equation;
 
@@ -19,15 +19,9 @@ fn targets_of(equations: &[Equation]) -> [bool; 256]
     marks
 }
 
-#[derive(Clone, Copy)]
-struct Walkers {
-    marks: [bool; 256],
-    found: bool,
-}
-
-// The variables with a silent line to a marked one.
-fn walkers_of(equations: &[Equation], marks: [bool; 256]) -> Walkers
-    ensures { (A : List ℕ) → Marks marks A → Marks result.marks (walkers equations.now A) × (result.found ≡ some? (walkers equations.now A)) }
+// The variables with a silent line to a marked one, if there are any.
+fn walkers_of(equations: &[Equation], marks: &[bool; 256]) -> Option<[bool; 256]>
+    ensures { (A : List ℕ) → Marks marks.now A → MarksOf result (walkers equations.now A) }
 {
     let mut next = [false; 256];
     let mut found = false;
@@ -44,7 +38,7 @@ fn walkers_of(equations: &[Equation], marks: [bool; 256]) -> Walkers
             Equation::Ends(_x, _a) => {}
         }
     }
-    Walkers { marks: next, found }
+    found.then_some(next)
 }
 
 // There is a ring if some silent walk is longer than the lines are many.
@@ -52,16 +46,11 @@ pub fn has_no_ring(equations: &[Equation]) -> bool
     ensures { Decides result (NoRing equations.now) }
 {
     let mut marks = targets_of(equations);
-    let mut left = equations.len();
-    loop {
-        let next = walkers_of(equations, marks);
-        if !next.found {
-            return true;
+    for _ in 0..equations.len() {
+        match walkers_of(equations, &marks) {
+            Some(next) => marks = next,
+            None => return true,
         }
-        if left == 0 {
-            return false;
-        }
-        marks = next.marks;
-        left -= 1;
     }
+    walkers_of(equations, &marks).is_none()
 }

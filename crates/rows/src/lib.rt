@@ -13,7 +13,12 @@ pub trait Exact: Eq {
 pub fn find_same<T: Exact>(entries: &[T], x: &T) -> Option<usize>
     ensures { Found entries.now x.now result }
 {
-    entries.iter().position(|entry| entry == x)
+    for (i, entry) in entries.iter().enumerate() {
+        if entry == x {
+            return Some(i);
+        }
+    }
+    None
 }
 
 // Whether no entry stands at two places.

@@ -2,7 +2,7 @@ use Rattle.std.proofs.Common.{◌≡◌, ◌+◌, true, ◌||◌, length, drop, 
 use Rattle.std.proofs.lemmas.List.{at_drop_all}
 use Rattle.acceptance.specs.Walks.{walkers, some?}
 use Rattle.processes.specs.declared.equations.Equation.TheVariants.{Ends}
-use Rattle.acceptance.proofs.Walking.{left_all, found_all, left_set, left_kept, left_start, found_on, found_past, walkers_hit, walkers_out, walkers_loud, walkers_past}
+use Rattle.acceptance.proofs.Walking.{left_all, marks_of, found_all, left_set, left_kept, left_start, found_on, found_past, walkers_hit, walkers_out, walkers_loud, walkers_past}
 use Rattle.acceptance.proofs.rings.walkers_of.Goals as goal
 use Rattle.acceptance.proofs.rings.walkers_of.Goals.{in-Becomes+then-a-eq0+then-marks-y, in-Becomes+then-a-eq0+else-marks-y, in-Becomes+else-a-eq0, in-Ends}
 
@@ -43,7 +43,7 @@ loop-line-init c = (refl, λ A m. (left_start 256 (walkers c.args.equations.now 
 
 pub returns : goal.returns
 returns c = λ A m.
-    let e : walkers (drop c.loop-line.line-index c.args.equations.now) A ≡ _ = at_drop_all (λ ys. walkers (ys) A) c.args.equations.now c.loop-line.line-index c.loop-line-test.false in (
-      left_all c.loop-line.next (walkers (drop c.loop-line.line-index c.args.equations.now) A) (walkers c.args.equations.now A) e (c.loop-line.invariant.1 A m).0,
-      found_all c.loop-line.found (walkers (drop c.loop-line.line-index c.args.equations.now) A) (walkers c.args.equations.now A) e (c.loop-line.invariant.1 A m).1,
-    )
+    let e : walkers (drop c.loop-line.line-index c.args.equations.now) A ≡ _ = at_drop_all (λ ys. walkers (ys) A) c.args.equations.now c.loop-line.line-index c.loop-line-test.false in
+    marks_of c.loop-line.found c.loop-line.next (walkers c.args.equations.now A) c.then_some.result c.then_some.ensures
+    (left_all c.loop-line.next (walkers (drop c.loop-line.line-index c.args.equations.now) A) (walkers c.args.equations.now A) e (c.loop-line.invariant.1 A m).0)
+    (found_all c.loop-line.found (walkers (drop c.loop-line.line-index c.args.equations.now) A) (walkers c.args.equations.now A) e (c.loop-line.invariant.1 A m).1)

@@ -1,5 +1,4 @@
 use Rattle.std.proofs.Common.{rules}
-use Rattle.std.proofs.lemmas.Grind.{common_steps}
 use Rattle.transitions.proofs.Grouping.{LineRegroups}
 use Rattle.actions.proofs.grouping.line_regroups.Goals as goal
 
