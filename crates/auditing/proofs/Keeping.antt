@@ -24,9 +24,7 @@ use Rattle.transitions.proofs.Merging.{merges_keep}
 use Rattle.transitions.proofs.Relabel.{block_keeps, hide_keeps}
 use Rattle.transitions.proofs.Replying.{match_replies}
 use Rattle.transitions.specs.declared.replies.Reply.{Reply}
-use Rattle.transitions.specs.declared.replies.Reply.TheVariants.{Nothing}
-use Rattle.transitions.specs.declared.verdicts.Verdict.{Verdict}
-use Rattle.transitions.specs.declared.verdicts.Verdict.TheVariants.{Matches}
+use Rattle.transitions.specs.Verdict.{Verdict}
 use Rattle.transitions.specs.Lts.{Lts, Lawful}
 use Rattle.transitions.specs.Match.{Pairing, flip, Match}
 use Rattle.transitions.specs.Reply.{ReplyIs}
@@ -39,14 +37,14 @@ ok_is : (v w : Verdict) → ◌≡◌ {A = Result Verdict Fault} (Ok v) (Ok w) �
 ok_is v w e = cc
 
 exact_from : (L R : Lts) → Lawful L → Lawful R → (B : Pairing) (why : Option Fault) (r : Result Verdict Fault) → Says why L R B r → why ≡ None
-    → (r ≡ Ok Matches → Match L R B) × (Match L R B → r ≡ Ok Matches)
+    → (r ≡ Ok (Ok tt) → Match L R B) × (Match L R B → r ≡ Ok (Ok tt))
 exact_from L R ll lr B why (Ok v) (e, is) none =
     let one = verdicts_exact L R ll lr B in
-    (λ q. subst (λ (x : Verdict). VerdictIs L R B x) (ok_is v Matches q) is, λ m. ap (λ (x : Verdict). Ok x) (one.only v is ∙ sym (one.only Matches m)))
+    (λ q. subst (λ (x : Verdict). VerdictIs L R B x) (ok_is v (Ok tt) q) is, λ m. ap (λ (x : Verdict). Ok x) (one.only v is ∙ sym (one.only (Ok tt) m)))
 exact_from L R ll lr B why (Err f) e none = absurd (some_none f (sym e ∙ none))
 
 -- Over a match a reply that was not refused is something.
-never_none : (n m : ℕ) (L R : Lts) (a b : ℕ) (B : Pairing) (ask : Ask) → Match L R B → ReplySays (reply_why n m L R a b B ask) L R B ask (Ok Nothing) → ⊥
+never_none : (n m : ℕ) (L R : Lts) (a b : ℕ) (B : Pairing) (ask : Ask) → Match L R B → ReplySays (reply_why n m L R a b B ask) L R B ask (Ok None) → ⊥
 never_none n m L R a b B ask match (none, (x, asks, rep)) =
     let one = both_none (judge_why n m L R a b) (unasked L R B ask) none in
     let two = both_none (unsided ask.side) _ one.1 in
@@ -55,9 +53,9 @@ never_none n m L R a b B ask match (none, (x, asks, rep)) =
     by_side (eqb ask.side 0) st.left st.right st.stands asks rep
   where
     by_side : (z : Bool) → ask.s < L.states → ask.t < R.states → B ask.s ask.t ≡ true → cond z (L.step ask.s ask.place) (R.step ask.t ask.place) ≡ Some x
-        → cond z (ReplyIs R B ask.s ask.t x Nothing) (ReplyIs L (flip B) ask.t ask.s x Nothing) → ⊥
-    by_side true hs ht st is rep = (match_replies L R B match).0 ask.s ask.t ask.place x hs ht st is Nothing rep refl
-    by_side false hs ht st is rep = (match_replies L R B match).1 ask.t ask.s ask.place x ht hs st is Nothing rep refl
+        → cond z (ReplyIs R B ask.s ask.t x None) (ReplyIs L (flip B) ask.t ask.s x None) → ⊥
+    by_side true hs ht st is rep = (match_replies L R B match).0 ask.s ask.t ask.place x hs ht st is None rep refl
+    by_side false hs ht st is rep = (match_replies L R B match).1 ask.t ask.s ask.place x ht hs st is None rep refl
 
 inside : (v : Sheet) (s t : ℕ) → standing v s t ≡ true → (s < rows_of v) × (t < columns_of v)
 inside v s t h =
@@ -115,7 +113,7 @@ module _ {X Y : Type 0} (ml : X → Lts) (mr : Y → Lts) (bytes : MutBor (List 
             (λ x y h. let b = inside v x y (ap (λ (B : Pairing). B x y) all ∙ h) in (subst (λ (z : ℕ). x < z) so'.rows b.0, subst (λ (z : ℕ). y < z) so'.columns b.1));
         reply = told;
         replies = λ match e. never_none n m L R _ _ (plain n m calls) ask match
-            (subst (λ (z : Result Reply Fault). ReplySays (reply_why n m L R (room_of before).marks (room_of before).queue (plain n m calls) ask) L R (plain n m calls) ask z) e told);
+            (subst (λ (z : Result (Option Reply) Fault). ReplySays (reply_why n m L R (room_of before).marks (room_of before).queue (plain n m calls) ask) L R (plain n m calls) ask z) e told);
         marks = marks.swept;
         queue = queue.swept;
         cleared = λ w e. (marks.wiped w e, queue.wiped w e);

@@ -17,7 +17,7 @@ use Rattle.pairings.specs.declared.faults.Fault.{Fault}
 use Rattle.pairings.specs.declared.faults.Fault.TheVariants.{Blank, Sizes, Short}
 use Rattle.sheets.specs.Calls.{blank, unfit, judge_why}
 use Rattle.transitions.specs.declared.replies.Reply.{Reply}
-use Rattle.transitions.specs.declared.verdicts.Verdict.{Verdict}
+use Rattle.transitions.specs.Verdict.{Verdict}
 use Rattle.transitions.specs.Lts.{Lts}
 use Rattle.transitions.specs.Match.{Pairing}
 
@@ -87,7 +87,7 @@ pub when_judged : (why : Option Fault) (L R : Lts) (B : Pairing) (r : Result Ver
 when_judged why L R B (Ok v) s = s.0
 when_judged why L R B (Err f) s = tt
 
-pub when_replied : (why : Option Fault) (L R : Lts) (B : Pairing) (a : Ask) (r : Result Reply Fault) → ReplySays why L R B a r → When r (why ≡ None)
+pub when_replied : (why : Option Fault) (L R : Lts) (B : Pairing) (a : Ask) (r : Result (Option Reply) Fault) → ReplySays why L R B a r → When r (why ≡ None)
 when_replied why L R B a (Ok v) s = s.0
 when_replied why L R B a (Err f) s = tt
 
@@ -131,7 +131,7 @@ pub by_verdict : (r : Result Verdict Fault) (a : Answer) (n : ℕ) (xs ys : List
 by_verdict (Ok v) a n xs ys e h = subst (λ (x : Answer). LeftBy x n xs ys) (sym e) h
 by_verdict (Err f) a n xs ys e h = subst (λ (x : Answer). LeftBy x n xs ys) (sym e) h
 
-pub by_reply : (r : Result Reply Fault) (a : Answer) (n : ℕ) (xs ys : List ℕ) → a ≡ of_reply r → Left r n xs ys → LeftBy a n xs ys
+pub by_reply : (r : Result (Option Reply) Fault) (a : Answer) (n : ℕ) (xs ys : List ℕ) → a ≡ of_reply r → Left r n xs ys → LeftBy a n xs ys
 by_reply (Ok v) a n xs ys e h = subst (λ (x : Answer). LeftBy x n xs ys) (sym e) h
 by_reply (Err f) a n xs ys e h = subst (λ (x : Answer). LeftBy x n xs ys) (sym e) h
 
@@ -163,7 +163,7 @@ wiped_more (Ok _) n N xs ys zs e s w = then_wiped N xs ys zs (inr s) (subst (λ 
 wiped_more (Err _) n N xs ys zs e s w = subst (λ (l : List ℕ). Wiped N xs l) (sym w) s
 
 -- The verdict and the reply after all calls.
-pub ended_at : (v : Result Verdict Fault) (r : Result Reply Fault) (n N : ℕ) (xs ys us zs : List ℕ) → When v (n ≡ N) → When r (n ≡ N) → Swept N xs ys → Left v n ys us → Left r n us zs → EndedAt N v xs zs
+pub ended_at : (v : Result Verdict Fault) (r : Result (Option Reply) Fault) (n N : ℕ) (xs ys us zs : List ℕ) → When v (n ≡ N) → When r (n ≡ N) → Swept N xs ys → Left v n ys us → Left r n us zs → EndedAt N v xs zs
 ended_at (Ok v) r n N xs ys us zs e f s h k =
     let here : Wiped N xs us = then_wiped N xs ys us s (subst (λ (x : ℕ). Wiped x ys us) e h) in
     let all : Wiped N xs zs = wiped_more r n N xs us zs f here k in

@@ -13,9 +13,7 @@ use Rattle.judging.specs.Replies.{ReplySays}
 use Rattle.sheets.specs.declared.sheet.Sheet.{Sheet}
 use Rattle.sheets.specs.Calls.{opens, judge_why, reply_why}
 use Rattle.sheets.specs.Sheets.{rows_of, columns_of, standing}
-use Rattle.transitions.specs.declared.replies.Reply.TheVariants.{Nothing}
-use Rattle.transitions.specs.declared.verdicts.Verdict.{Verdict}
-use Rattle.transitions.specs.declared.verdicts.Verdict.TheVariants.{Matches}
+use Rattle.transitions.specs.Verdict.{Verdict}
 use Rattle.transitions.specs.Lts.{Lts, Lawful}
 use Rattle.transitions.specs.Made.{Actions, Joins, Communication, block, hide, merge, beside}
 use Rattle.transitions.specs.Match.{Pairing, flip, Match}
@@ -70,12 +68,12 @@ pub record Audited {X Y : Type 0} (ml : X → Lts) (mr : Y → Lts) (bytes : Mut
   pub told : (k : ℕ) (c : Call X Y) → k < length calls → k < length answers → c ≡ slice_index_or calls k c → Tells ml mr n m (room_of before) (plain n m (take k calls)) c (slice_index_or answers k Done)
   -- the verdict is exact: a match exactly where the pairs are one, else the first broken condition, or the refusal
   pub verdict : Judge-says (judge_why n m L R (room_of before).marks (room_of before).queue) L R (plain n m calls) said.verdict
-  pub exact : judge_why n m L R (room_of before).marks (room_of before).queue ≡ None → Iff (said.verdict ≡ Ok Matches) (Match L R (plain n m calls))
+  pub exact : judge_why n m L R (room_of before).marks (room_of before).queue ≡ None → Iff (said.verdict ≡ Ok (Ok tt)) (Match L R (plain n m calls))
   -- what a match of any two models of the sizes means
   pub means : Means n m (plain n m calls)
   -- the reply, and that over a match it is never nothing
   pub reply : ReplySays (reply_why n m L R (room_of before).marks (room_of before).queue (plain n m calls) ask) L R (plain n m calls) ask said.reply
-  pub replies : Match L R (plain n m calls) → said.reply ≢ Ok Nothing
+  pub replies : Match L R (plain n m calls) → said.reply ≢ Ok None
   -- the scratch: nothing from the larger size on is touched, and after a verdict the entries below it are 0
   pub marks : Swept (max n m) before.marks after.marks
   pub queue : Swept (max n m) before.queue after.queue

@@ -1,5 +1,5 @@
 -- What each call answers, and what it leaves in the scratch.
-use Rattle.std.specs.Prelude.{◌≡◌, ℕ, min, List, Ok, Err, Result}
+use Rattle.std.specs.Prelude.{◌≡◌, ℕ, min, List, Ok, Err, Option, Result}
 use Rattle.auditing.specs.declared.calls.Answer.{Answer}
 use Rattle.auditing.specs.declared.calls.Answer.TheVariants.{Done, Judged, Replied, Refused}
 use Rattle.auditing.specs.declared.calls.Call.{Call}
@@ -11,7 +11,7 @@ use Rattle.judging.specs.Replies.{ReplySays}
 use Rattle.pairings.specs.declared.faults.Fault.{Fault}
 use Rattle.sheets.specs.Calls.{pair_says, unpair_says, removing, judge_why, without_why, reply_why}
 use Rattle.transitions.specs.declared.replies.Reply.{Reply as Reply-value}
-use Rattle.transitions.specs.declared.verdicts.Verdict.{Verdict}
+use Rattle.transitions.specs.Verdict.{Verdict}
 use Rattle.transitions.specs.Lts.{Lts}
 use Rattle.transitions.specs.Match.{Pairing}
 
@@ -33,7 +33,7 @@ abbrev pub of_verdict : Result Verdict Fault → Answer
 of_verdict (Ok v) = Judged v
 of_verdict (Err fault) = Refused fault
 
-abbrev pub of_reply : Result Reply-value Fault → Answer
+abbrev pub of_reply : Result (Option Reply-value) Fault → Answer
 of_reply (Ok r) = Replied r
 of_reply (Err fault) = Refused fault
 
@@ -47,7 +47,7 @@ WithoutTells n m room B L R s t part a =
 
 abbrev pub ReplyTells : ℕ → ℕ → Room → Pairing → Lts → Lts → Ask → Lent → Answer → Type 0
 ReplyTells n m room B L R ask part a =
-    (v : Result Reply-value Fault) × (a ≡ of_reply v) × ReplySays (reply_why n m L R (lent_of room part).marks (lent_of room part).queue B ask) L R B ask v
+    (v : Result (Option Reply-value) Fault) × (a ≡ of_reply v) × ReplySays (reply_why n m L R (lent_of room part).marks (lent_of room part).queue B ask) L R B ask v
 
 -- What any call answers.
 abbrev pub Tells : {X Y : Type 0} → (X → Lts) → (Y → Lts) → ℕ → ℕ → Room → Pairing → Call X Y → Answer → Type 0

@@ -23,7 +23,7 @@ pub struct Question<'a, 'b, A, B> {
 #[derive(Drop)]
 pub struct Said {
     pub verdict: Result<Verdict, Fault>,
-    pub reply: Result<Reply, Fault>,
+    pub reply: Result<Option<Reply>, Fault>,
 }
 
 // Opens a sheet for two models over lent bytes, makes every call of the list in order, refused ones too, each with its own models

@@ -46,6 +46,6 @@ pub enum Call<'a, L, R> {
 pub enum Answer {
     Done,
     Judged(Verdict),
-    Replied(Reply),
+    Replied(Option<Reply>),
     Refused(Fault),
 }

@@ -30,7 +30,7 @@ fn answer_of_verdict(r: Result<Verdict, Fault>) -> Answer
     }
 }
 
-fn answer_of_reply(r: Result<Reply, Fault>) -> Answer
+fn answer_of_reply(r: Result<Option<Reply>, Fault>) -> Answer
     ensures { result ≡ of_reply r }
 {
     match r {

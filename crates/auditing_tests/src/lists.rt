@@ -5,23 +5,23 @@ use auditing::calls::{Answer, Call, Lent};
 use judging::replies::Ask;
 use pairings::faults::Fault;
 use transitions::replies::Reply;
-use transitions::verdicts::Verdict;
+use transitions::verdicts::{Figures, Verdict};
 
 fn of_verdict(verdict: Verdict) -> usize {
-    100 + verdict.figures().kind as usize
+    100 + Figures::from(verdict).kind as usize
 }
 
-fn of_reply(reply: Reply) -> usize {
+fn of_reply(reply: Option<Reply>) -> usize {
     match reply {
-        Reply::Stays => 200,
-        Reply::Moves(state, place) => {
+        Some(Reply::Stays) => 200,
+        Some(Reply::Moves(state, place)) => {
             if state < 10 && place < 10 {
                 300 + 10 * state + place
             } else {
                 999
             }
         }
-        Reply::Nothing => 400,
+        None => 400,
     }
 }
 

@@ -1,5 +1,5 @@
 -- The numbers of answers.
-use Rattle.std.specs.Prelude.{◌≡◌, ℕ, List, Ok, Err, Result}
+use Rattle.std.specs.Prelude.{◌≡◌, ℕ, List, Some, None, Ok, Err, Option, Result}
 use Rattle.exports.specs.declared.answers.Answer.{Answer}
 use Rattle.exports.specs.declared.files.Reading.{Reading}
 use Rattle.exports.specs.declared.files.Unfolding.{Unfolding}
@@ -18,9 +18,9 @@ use Rattle.tables.specs.declared.steps_table.Table.{Table}
 use Rattle.transitions.specs.Verdict.{figures}
 use Rattle.transitions.specs.declared.lines.JoinLine.{JoinLine}
 use Rattle.transitions.specs.declared.replies.Reply.{Reply}
-use Rattle.transitions.specs.declared.replies.Reply.TheVariants.{Stays, Moves, Nothing}
+use Rattle.transitions.specs.declared.replies.Reply.TheVariants.{Stays, Moves}
 use Rattle.transitions.specs.declared.steps.Step.{Step}
-use Rattle.transitions.specs.declared.verdicts.Verdict.{Verdict}
+use Rattle.transitions.specs.Verdict.{Verdict}
 use Rattle.unfolding.specs.Model.{IsModel}
 use Rattle.unfolding.specs.Promise.{IsUnfolded}
 use Rattle.unfolding.specs.Refusals.{refusal_number}
@@ -67,10 +67,10 @@ abbrev pub of_verdict : Result Verdict Fault → Answer
 of_verdict (Ok v) = record { kind = 1; number = (figures v).kind; left = (figures v).left; right = (figures v).right; side = (figures v).side; place = (figures v).place }
 of_verdict (Err f) = record { kind = 3; number = number f; left = 0; right = 0; side = 0; place = 0 }
 
-abbrev pub of_reply : Result Reply Fault → Answer
-of_reply (Ok Stays) = record { kind = 2; number = 0; left = 0; right = 0; side = 0; place = 0 }
-of_reply (Ok (Moves state place)) = record { kind = 2; number = 1; left = state; right = 0; side = 0; place = place }
-of_reply (Ok Nothing) = record { kind = 2; number = 2; left = 0; right = 0; side = 0; place = 0 }
+abbrev pub of_reply : Result (Option Reply) Fault → Answer
+of_reply (Ok (Some Stays)) = record { kind = 2; number = 0; left = 0; right = 0; side = 0; place = 0 }
+of_reply (Ok (Some (Moves state place))) = record { kind = 2; number = 1; left = state; right = 0; side = 0; place = place }
+of_reply (Ok None) = record { kind = 2; number = 2; left = 0; right = 0; side = 0; place = 0 }
 of_reply (Err f) = record { kind = 3; number = number f; left = 0; right = 0; side = 0; place = 0 }
 
 -- The answer tells of some verdict or refusal.

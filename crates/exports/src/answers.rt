@@ -4,7 +4,7 @@ ghost use Rattle.exports.specs.Answers.{of_change, of_reply, of_verdict};
 
 use pairings::faults::Fault;
 use transitions::replies::Reply;
-use transitions::verdicts::Verdict;
+use transitions::verdicts::{Figures, Verdict};
 
 // Kind 0 is done; 1 a verdict by its figures; 2 a reply, where number 0 stays, 1 moves to the state `left` and the place, and 2 is
 // nothing; 3 a refusal by its number. What is not used is 0.
@@ -46,7 +46,7 @@ pub(crate) fn answer_of_verdict(res: Result<Verdict, Fault>) -> Answer
 {
     match res {
         Ok(verdict) => {
-            let f = verdict.figures();
+            let f = Figures::from(verdict);
             Answer {
                 kind: 1,
                 number: f.kind,
@@ -60,13 +60,13 @@ pub(crate) fn answer_of_verdict(res: Result<Verdict, Fault>) -> Answer
     }
 }
 
-pub(crate) fn answer_of_reply(res: Result<Reply, Fault>) -> Answer
+pub(crate) fn answer_of_reply(res: Result<Option<Reply>, Fault>) -> Answer
     ensures { result ≡ of_reply res }
 {
     match res {
-        Ok(Reply::Stays) => plain(2, 0, 0, 0),
-        Ok(Reply::Moves(state, place)) => plain(2, 1, state, place),
-        Ok(Reply::Nothing) => plain(2, 2, 0, 0),
+        Ok(Some(Reply::Stays)) => plain(2, 0, 0, 0),
+        Ok(Some(Reply::Moves(state, place))) => plain(2, 1, state, place),
+        Ok(None) => plain(2, 2, 0, 0),
         Err(fault) => plain(3, fault.number(), 0, 0),
     }
 }

@@ -59,7 +59,7 @@ pub none_both : (a b : Option Fault) → a ≡ None → b ≡ None → or_else a
 none_both a b e f = ap (λ (x : Option Fault). or_else x b) e ∙ f
 
 -- The reply is that of the side that is asked.
-module _ (L R : Lts) (B : Pairing) (a : Ask) (x : Step) (r : Reply) where
+module _ (L R : Lts) (B : Pairing) (a : Ask) (x : Step) (r : Option Reply) where
   pub by_left : a.side ≡ 0 → ReplyIs R B a.s a.t x r → RepliesTo L R B a x r
   by_left e h = subst (λ (b : Bool). cond b (ReplyIs R B a.s a.t x r) (ReplyIs L (flip B) a.t a.s x r)) (sym (eq-eqb a.side 0 e)) h
 

@@ -55,16 +55,16 @@ Asks L R B a (Ok x) = Asked L R B a x
 Asks L R B a (Err fault) = unasked L R B a ≡ Some fault
 
 -- The other state of the pair replies r to the step x of the asking one.
-abbrev pub RepliesTo : Lts → Lts → Pairing → Ask → Step → Reply → Type 0
+abbrev pub RepliesTo : Lts → Lts → Pairing → Ask → Step → Option Reply → Type 0
 RepliesTo L R B a x r = cond (a.side == 0) (ReplyIs R B a.s a.t x r) (ReplyIs L (flip B) a.t a.s x r)
 
 -- The reply to the step that is asked about, or the refusal.
-abbrev pub ReplySays : Option Fault → Lts → Lts → Pairing → Ask → Result Reply Fault → Type 0
+abbrev pub ReplySays : Option Fault → Lts → Lts → Pairing → Ask → Result (Option Reply) Fault → Type 0
 ReplySays why L R B a (Ok r) = (why ≡ None) × ((x : Step) × (wanted L R a ≡ Some x) × RepliesTo L R B a x r)
 ReplySays why L R B a (Err fault) = why ≡ Some fault
 
 -- A call for a reply under a pairing, refused for a reason or not.
-pub record Replied (why : Option Fault) (L R : Lts) (B : Pairing) (a : Ask) (before after : Scratch) (r : Result Reply Fault) : Type 0 where
+pub record Replied (why : Option Fault) (L R : Lts) (B : Pairing) (a : Ask) (before after : Scratch) (r : Result (Option Reply) Fault) : Type 0 where
   pub says : ReplySays why L R B a r
   pub marks : Left r (larger L R) before.marks after.marks
   pub queue : Left r (larger L R) before.queue after.queue

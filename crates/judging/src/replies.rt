@@ -33,7 +33,7 @@ fn reply_to<R: TransitionSystem, P: Pairing>(
     t: usize,
     marks: &mut [u8],
     queue: &mut [u16],
-) -> Reply
+) -> Option<Reply>
     requires state { t < (R.meaning right.now).states }
     requires fit { (R.meaning right.now).states ≤ length marks.old }
     requires clean { Clean marks.old queue.old }
@@ -41,7 +41,7 @@ fn reply_to<R: TransitionSystem, P: Pairing>(
     ensures clean { Clean marks.new queue.new }
 {
     if stays(pairing, want, t) {
-        return Reply::Stays;
+        return Some(Reply::Stays);
     }
     let query = ToStep {
         right,
@@ -49,10 +49,8 @@ fn reply_to<R: TransitionSystem, P: Pairing>(
         s,
         want,
     };
-    match search(right, &query, t, marks, queue) {
-        Some(found) => Reply::Moves(found.state, found.place),
-        None => Reply::Nothing,
-    }
+    let found = search(right, &query, t, marks, queue)?;
+    Some(Reply::Moves(found.state, found.place))
 }
 
 // The reply, in scratch of the right length, whatever it holds.
@@ -64,7 +62,7 @@ fn reply_in<R: TransitionSystem, P: Pairing>(
     t: usize,
     marks: &mut [u8],
     queue: &mut [u16],
-) -> Reply
+) -> Option<Reply>
     requires state { t < (R.meaning right.now).states }
     requires fit { (R.meaning right.now).states ≤ length marks.old }
     requires long { length queue.old ≡ length marks.old }
@@ -120,7 +118,7 @@ fn asked<L: TransitionSystem, R: TransitionSystem, P: Pairing>(
 
 // The reply to a step. It stays, if the step is silent and its target stands with the other state. Else it moves by silent steps
 // to a state that stands with the asking one, and names the lowest place there that does the same and leads to a standing pair.
-// It is nothing only where there is no answer. Refused with the first that holds: a model is empty, the marks or the queue are
+// There is none only where there is no answer. Refused with the first that holds: a model is empty, the marks or the queue are
 // shorter than the larger size, the side is neither 0 nor 1, a state is not below its size, the pair does not stand, the place
 // holds no step. After a reply the first entries of both, as many as the larger size, are 0.
 pub fn reply<L: TransitionSystem, R: TransitionSystem, P: Pairing>(
@@ -130,7 +128,7 @@ pub fn reply<L: TransitionSystem, R: TransitionSystem, P: Pairing>(
     ask: Ask,
     marks: &mut [u8],
     queue: &mut [u16],
-) -> Result<Reply, Fault>
+) -> Result<Option<Reply>, Fault>
     ensures { Replied (reply_refusal (L.TransitionSystem.meaning left.now) (R.TransitionSystem.meaning right.now) (P.standing pairing.now) (record { marks = marks.entry.now; queue = queue.old }) ask) (L.TransitionSystem.meaning left.now) (R.TransitionSystem.meaning right.now) (P.standing pairing.now) ask (record { marks = marks.entry.now; queue = queue.old }) (record { marks = marks.exit.now; queue = queue.new }) result }
 {
     if let Some(fault) = unready(left, right, marks, queue) {

@@ -26,19 +26,19 @@ fn judge_clean<L: TransitionSystem, R: TransitionSystem, P: Pairing>(
     let s = left.start();
     let t = right.start();
     if !pairing.stands(s, t) {
-        return Verdict::Fails(Counterexample::StartMissing(s, t));
+        return Err(Counterexample::StartMissing(s, t));
     }
     if let Some(broken) = judge_rows(left, right, pairing, marks, queue) {
-        return Verdict::Fails(broken);
+        return Err(broken);
     }
     if let Some(place) = first_unrooted(left, right, pairing) {
-        return Verdict::Fails(Counterexample::RootUnanswered(s, t, Side::Left, place));
+        return Err(Counterexample::RootUnanswered(s, t, Side::Left, place));
     }
     let flipped = Flipped { pairing };
     if let Some(place) = first_unrooted(right, left, &flipped) {
-        return Verdict::Fails(Counterexample::RootUnanswered(s, t, Side::Right, place));
+        return Err(Counterexample::RootUnanswered(s, t, Side::Right, place));
     }
-    Verdict::Matches
+    Ok(())
 }
 
 // The verdict, in scratch of the right length, whatever it holds.

@@ -10,7 +10,6 @@ use pairings::besides::Beside;
 use pairings::standing::Pairing;
 use sheets::sheet::Sheet;
 use std::test::Fail;
-use transitions::verdicts::Verdict;
 
 fn pile(take: u8, give: u8) -> Hidden<Blocked<Merge<Counter, Counter, Ports>>> {
     let merge = Merge::new(
@@ -32,14 +31,14 @@ fn piles_match(rt: HostRuntime) -> Result<(), Fail> {
     assert!(rt; sheet.pair(0, 0).is_ok());
     assert!(rt; sheet.pair(3, 3).is_ok());
     match sheet.judge(&left, &right, &mut marks, &mut queue) {
-        Ok(Verdict::Matches) => (),
+        Ok(Ok(())) => (),
         _ => {
             assert!(rt; false, "the piles match");
             return Ok(())
         },
     }
     match sheet.without(&left, &right, 3, 3, &mut marks, &mut queue) {
-        Ok(Verdict::Fails(_)) => (),
+        Ok(Err(_)) => (),
         _ => {
             assert!(rt; false, "the joint step leads to no pair");
             return Ok(())
@@ -64,7 +63,7 @@ fn merges_beside_match(rt: HostRuntime) -> Result<(), Fail> {
     let first = Merge::new(left, third, Ports::new());
     let second = Merge::new(right, third, Ports::new());
     match judge(&first, &second, &beside, &mut marks, &mut queue) {
-        Ok(Verdict::Matches) => {
+        Ok(Ok(())) => {
             assert!(rt; true);
             Ok(())
         },

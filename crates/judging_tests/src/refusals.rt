@@ -4,7 +4,7 @@ use models::counters::Counter;
 use pairings::besides::Beside;
 use pairings::faults::Fault;
 use sheets::sheet::Sheet;
-use transitions::verdicts::Verdict;
+use transitions::verdicts::{Figures, Verdict};
 
 fn done(answer: Result<(), Fault>) -> u8 {
     match answer {
@@ -16,7 +16,7 @@ fn done(answer: Result<(), Fault>) -> u8 {
 // The kind of the verdict, or the number of the refusal.
 fn kind(answer: Result<Verdict, Fault>) -> u8 {
     match answer {
-        Ok(verdict) => verdict.figures().kind,
+        Ok(verdict) => Figures::from(verdict).kind,
         Err(fault) => fault.number(),
     }
 }

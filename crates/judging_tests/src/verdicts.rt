@@ -6,13 +6,13 @@ use models::hiding::Hidden;
 use models::systems::TransitionSystem;
 use pairings::faults::Fault;
 use sheets::sheet::Sheet;
-use transitions::verdicts::Verdict;
+use transitions::verdicts::{Figures, Verdict};
 
 // The kind with the states, and the side with the place; a refusal by its number.
 fn told(answer: Result<Verdict, Fault>) -> ((u8, usize, usize), (u8, usize)) {
     match answer {
         Ok(verdict) => {
-            let f = verdict.figures();
+            let f = Figures::from(verdict);
             ((f.kind, f.left, f.right), (f.side, f.place))
         }
         Err(fault) => ((fault.number(), 0, 0), (0, 0)),

@@ -6,30 +6,30 @@ ghost use Rattle.modelfile.specs.State.{Counted, sofar_is};
 ghost use Rattle.modelfile.specs.Tests.{any, said_before, full, too_many, start_of};
 
 use super::entries::{Entry, Sofar};
+use actions::lines::is_named;
 use processes::equations::Equation;
 use processes::terms::Term;
-use rows::find_same;
 use transitions::lines::JoinLine;
 
 fn is_line_before(lines: &[JoinLine], count: usize, l: JoinLine) -> bool
     requires { count ≤ length lines.now }
     ensures { result ≡ any (λ k. names k l.a l.b) (take count lines.now) }
 {
-    find_same(&lines[0..count], &l).is_some()
+    is_named(&lines[0..count], l.a, l.b)
 }
 
 fn is_equation_before(equations: &[Equation], count: usize, e: Equation) -> bool
     requires { count ≤ length equations.now }
     ensures { result ≡ any (λ d. same_equation d e) (take count equations.now) }
 {
-    find_same(&equations[0..count], &e).is_some()
+    equations[0..count].contains(&e)
 }
 
 fn is_term_before(terms: &[Term], count: usize, t: Term) -> bool
     requires { count ≤ length terms.now }
     ensures { result ≡ any (λ s. same_term s t) (take count terms.now) }
 {
-    find_same(&terms[0..count], &t).is_some()
+    terms[0..count].contains(&t)
 }
 
 // Whether an earlier line said the same.

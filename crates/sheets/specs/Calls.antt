@@ -9,7 +9,7 @@ use Rattle.pairings.specs.declared.faults.Fault.TheVariants.{NoState, Blank, Sta
 use Rattle.sheets.specs.declared.sheet.Sheet.{Sheet}
 use Rattle.sheets.specs.Bits.{needed, with_bit, without_bit}
 use Rattle.sheets.specs.Sheets.{rows_of, columns_of, standing, Kept}
-use Rattle.transitions.specs.declared.verdicts.Verdict.{Verdict}
+use Rattle.transitions.specs.Verdict.{Verdict}
 use Rattle.transitions.specs.Lts.{Lts}
 use Rattle.transitions.specs.Match.{Pairing}
 

@@ -13,7 +13,7 @@ use pairings::standing::Pairing;
 use sheets::sheet::Sheet;
 use std::io;
 use transitions::replies::Reply;
-use transitions::verdicts::Verdict;
+use transitions::verdicts::{Figures, Verdict};
 
 fn tell_change(rt: &HostRuntime, call: &str, answer: Result<(), Fault>) -> io::Result<()> {
     match answer {
@@ -24,9 +24,9 @@ fn tell_change(rt: &HostRuntime, call: &str, answer: Result<(), Fault>) -> io::R
 
 fn tell_verdict(rt: &HostRuntime, call: &str, answer: Result<Verdict, Fault>) -> io::Result<()> {
     match answer {
-        Ok(Verdict::Matches) => println!(rt; "    {call}: a match"),
-        Ok(Verdict::Fails(counterexample)) => {
-            let f = Verdict::Fails(counterexample).figures();
+        Ok(Ok(())) => println!(rt; "    {call}: a match"),
+        Ok(Err(counterexample)) => {
+            let f = Figures::from(Err(counterexample));
             println!(rt;
                 "    {call}: no match, kind {} at states {} and {}, side {}, place {}",
                 f.kind, f.left, f.right, f.side, f.place
@@ -36,13 +36,13 @@ fn tell_verdict(rt: &HostRuntime, call: &str, answer: Result<Verdict, Fault>) ->
     }
 }
 
-fn tell_reply(rt: &HostRuntime, call: &str, answer: Result<Reply, Fault>) -> io::Result<()> {
+fn tell_reply(rt: &HostRuntime, call: &str, answer: Result<Option<Reply>, Fault>) -> io::Result<()> {
     match answer {
-        Ok(Reply::Stays) => println!(rt; "    {call}: it stays"),
-        Ok(Reply::Moves(state, place)) => println!(rt;
+        Ok(Some(Reply::Stays)) => println!(rt; "    {call}: it stays"),
+        Ok(Some(Reply::Moves(state, place))) => println!(rt;
             "    {call}: it moves, from state {state} at place {place}"
         ),
-        Ok(Reply::Nothing) => println!(rt; "    {call}: nothing"),
+        Ok(None) => println!(rt; "    {call}: nothing"),
         Err(fault) => println!(rt; "    {call}: refused with {}", fault.number()),
     }
 }
@@ -106,8 +106,8 @@ fn judge_again(
     let mut marks = [0u8; 64];
     let mut queue = [0u16; 64];
     match judge(left, right, pairing, &mut marks, &mut queue) {
-        Ok(Verdict::Matches) => println!(rt; "{note}. {what}: judged again, the match stays."),
-        Ok(Verdict::Fails(_)) => println!(rt; "{note}. {what}: judged again, no match."),
+        Ok(Ok(())) => println!(rt; "{note}. {what}: judged again, the match stays."),
+        Ok(Err(_)) => println!(rt; "{note}. {what}: judged again, no match."),
         Err(fault) => println!(rt; "{note}. {what}: refused with {}.", fault.number()),
     }
 }

@@ -74,19 +74,19 @@ fn tell(
     verdict: Verdict,
 ) -> io::Result<()> {
     match verdict {
-        Verdict::Matches => println!(rt;
+        Ok(()) => println!(rt;
             "{note}. Judged: a match. Whatever one of the two does, the other can follow, for ever."
         ),
-        Verdict::Fails(Counterexample::StepUnanswered(s, t, side, place)) => tell_step(
+        Err(Counterexample::StepUnanswered(s, t, side, place)) => tell_step(
             rt, note, rule, till, s, t, side, place,
         ),
-        Verdict::Fails(Counterexample::RootUnanswered(s, t, side, place)) => tell_step(
+        Err(Counterexample::RootUnanswered(s, t, side, place)) => tell_step(
             rt, note, rule, till, s, t, side, place,
         ),
-        Verdict::Fails(Counterexample::StartMissing(s, t)) => println!(rt;
+        Err(Counterexample::StartMissing(s, t)) => println!(rt;
             "{note}. Judged: no match. The starts {s} and {t} are not paired."
         ),
-        Verdict::Fails(Counterexample::EndUnanswered(s, t, _)) => println!(rt;
+        Err(Counterexample::EndUnanswered(s, t, _)) => println!(rt;
             "{note}. Judged: no match. Of the paired states {s} and {t} only one may end."
         ),
     }

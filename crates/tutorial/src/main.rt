@@ -9,7 +9,7 @@ use pairings::faults::Fault;
 use sheets::sheet::Sheet;
 use std::io;
 use tables::steps_table::Table;
-use transitions::verdicts::Verdict;
+use transitions::verdicts::{Figures, Verdict};
 
 // A pass is paid for (action 1) and handed out (action 2), again and again.
 const RULE: &[u8; 34] = b"m,2\ne,0,1,1\ne,1,2,0\nt,1,v,0,0\nz,1\n";
@@ -30,7 +30,7 @@ fn pair_states(sheet: &mut Sheet) -> Result<(), Fault> {
 fn tell(rt: &HostRuntime, name: &str, answer: Result<Verdict, Fault>) -> io::Result<()> {
     match answer {
         Ok(verdict) => {
-            let f = verdict.figures();
+            let f = Figures::from(verdict);
             println!(rt;
                 "{name}: kind {}, states {} and {}, side {}, place {}",
                 f.kind, f.left, f.right, f.side, f.place

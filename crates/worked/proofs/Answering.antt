@@ -6,7 +6,7 @@ use Rattle.transitions.specs.Lts.{Lts, Lawful}
 use Rattle.transitions.specs.Match.{Pairing}
 use Rattle.transitions.specs.Verdict.{VerdictIs, figures}
 use Rattle.transitions.specs.declared.verdicts.Figures.{Figures}
-use Rattle.transitions.specs.declared.verdicts.Verdict.{Verdict}
+use Rattle.transitions.specs.Verdict.{Verdict}
 use Rattle.transitions.proofs.Computed.{verdict}
 use Rattle.transitions.proofs.Judging.{verdict_stands, verdicts_exact}
 use Rattle.worked.specs.Runs.{Told}

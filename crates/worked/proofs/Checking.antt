@@ -13,7 +13,7 @@ use Rattle.transitions.specs.Match.{Pairing}
 use Rattle.transitions.specs.Verdict.{figures}
 use Rattle.transitions.specs.declared.replies.Reply.{Reply}
 use Rattle.transitions.specs.declared.verdicts.Figures.{Figures}
-use Rattle.transitions.specs.declared.verdicts.Verdict.{Verdict}
+use Rattle.transitions.specs.Verdict.{Verdict}
 use Rattle.transitions.proofs.Computed.{verdict}
 use Rattle.worked.specs.Making.{full, Refuses}
 use Rattle.worked.specs.Runs.{Run, unfolds, refuses, judges, judges_without, replies, sheet, Between, Told, Holds}
@@ -45,7 +45,7 @@ abbrev without_test : List (ℕ × ℕ) → ℕ × ℕ → Verdict → Figures �
 without_test pairs out v f L R =
     is_told (without_why L.states R.states L R (larger L R) (larger L R) (sheet pairs) out.0 out.1) L R (removing (sheet pairs) out.0 out.1) v f
 
-abbrev reply_test : List (ℕ × ℕ) → Ask → Reply → Lts → Lts → Bool
+abbrev reply_test : List (ℕ × ℕ) → Ask → Option Reply → Lts → Lts → Bool
 reply_test pairs ask r L R =
     is_free (reply_why L.states R.states L R (larger L R) (larger L R) (sheet pairs) ask) && replies_to L R (sheet pairs) ask (wanted L R ask) r
 

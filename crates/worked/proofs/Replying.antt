@@ -9,7 +9,7 @@ use Rattle.transitions.specs.Lts.{Lts, Lawful}
 use Rattle.transitions.specs.Match.{Pairing, flip, Answered}
 use Rattle.transitions.specs.Reply.{FitsAt, Move, ReplyIs}
 use Rattle.transitions.specs.declared.replies.Reply.{Reply}
-use Rattle.transitions.specs.declared.replies.Reply.TheVariants.{Stays, Moves, Nothing}
+use Rattle.transitions.specs.declared.replies.Reply.TheVariants.{Stays, Moves}
 use Rattle.transitions.specs.declared.steps.Step.{Step}
 use Rattle.transitions.proofs.Computed.{reach, hits, answered}
 use Rattle.transitions.proofs.Reach.{reach_sound, decides_hits, decides_answered}
@@ -45,10 +45,10 @@ module _ (R : Lts) (B : Pairing) where
   alone s t x m = ltb t R.states && (not (eqb x.target s) && not (answered R (removing B s m) s t x.action x.target))
 
   -- It passes no reply of nothing, and no move beside which there is another.
-  abbrev pub is_reply : ℕ → ℕ → Step → Reply → Bool
-  is_reply s t x Stays = stays x t
-  is_reply s t x (Moves m p) = moves s t x m p && alone s t x m
-  is_reply s t x Nothing = false
+  abbrev pub is_reply : ℕ → ℕ → Step → Option Reply → Bool
+  is_reply s t x (Some Stays) = stays x t
+  is_reply s t x (Some (Moves m p)) = moves s t x m p && alone s t x m
+  is_reply s t x None = false
 
   tells_move : (s t : ℕ) (x : Step) (m p : ℕ) → moves s t x m p ≡ true → Move R B s t x m p
   tells_move s t x m p h =
@@ -64,10 +64,10 @@ module _ (R : Lts) (B : Pairing) where
         lowest = tells_none x m p d.1;
       }
 
-  pub tells_reply : (s t : ℕ) (x : Step) (r : Reply) → is_reply s t x r ≡ true → ReplyIs R B s t x r
-  tells_reply s t x Stays h = let both = and_parts (eqb x.action 0) (B x.target t) h in (eqb-true _ _ both.0, both.1)
-  tells_reply s t x (Moves m p) h = tells_move s t x m p (and_parts (moves s t x m p) _ h).0
-  tells_reply s t x Nothing h = absurd (false≢true h)
+  pub tells_reply : (s t : ℕ) (x : Step) (r : Option Reply) → is_reply s t x r ≡ true → ReplyIs R B s t x r
+  tells_reply s t x (Some Stays) h = let both = and_parts (eqb x.action 0) (B x.target t) h in (eqb-true _ _ both.0, both.1)
+  tells_reply s t x (Some (Moves m p)) h = tells_move s t x m p (and_parts (moves s t x m p) _ h).0
+  tells_reply s t x None h = absurd (false≢true h)
 
   -- ---- there is no other
 
@@ -106,29 +106,29 @@ module _ (R : Lts) (B : Pairing) where
         | inr ne ↦ absurd (false≢true (sym (not-true _ c.1) ∙ decides.1 (elsewhere s t x m n q (not-true _ c.0) ne w)))
       ]
 
-  pub one_reply : Lawful R → (s t : ℕ) (x : Step) (r : Reply) → is_reply s t x r ≡ true → (q : Reply) → ReplyIs R B s t x q → q ≡ r
-  one_reply law s t x Stays h Stays w = refl
-  one_reply law s t x Stays h (Moves n q) w = absurd (w.moves (tells_reply s t x Stays h))
-  one_reply law s t x Stays h Nothing w = absurd (w (inl (tells_reply s t x Stays h)))
-  one_reply law s t x (Moves m p) h Stays w = absurd ((tells_reply s t x (Moves m p) h).moves w)
-  one_reply law s t x (Moves m p) h (Moves n q) w = one_move law s t x m p n q h w
-  one_reply law s t x (Moves m p) h Nothing w = absurd (w (answers s t x m p (tells_reply s t x (Moves m p) h)))
-  one_reply law s t x Nothing h q w = absurd (false≢true h)
+  pub one_reply : Lawful R → (s t : ℕ) (x : Step) (r : Option Reply) → is_reply s t x r ≡ true → (q : Option Reply) → ReplyIs R B s t x q → q ≡ r
+  one_reply law s t x (Some Stays) h (Some Stays) w = refl
+  one_reply law s t x (Some Stays) h (Some (Moves n q)) w = absurd (w.moves (tells_reply s t x (Some Stays) h))
+  one_reply law s t x (Some Stays) h None w = absurd (w (inl (tells_reply s t x (Some Stays) h)))
+  one_reply law s t x (Some (Moves m p)) h (Some Stays) w = absurd ((tells_reply s t x (Some (Moves m p)) h).moves w)
+  one_reply law s t x (Some (Moves m p)) h (Some (Moves n q)) w = one_move law s t x m p n q h w
+  one_reply law s t x (Some (Moves m p)) h None w = absurd (w (answers s t x m p (tells_reply s t x (Some (Moves m p)) h)))
+  one_reply law s t x None h q w = absurd (false≢true h)
 
 -- ---- the reply to the step that is asked about, if there is one
 
-abbrev pub replies_to : Lts → Lts → Pairing → Ask → Option Step → Reply → Bool
+abbrev pub replies_to : Lts → Lts → Pairing → Ask → Option Step → Option Reply → Bool
 replies_to L R B a None r = false
 replies_to L R B a (Some x) r = cond (eqb a.side 0) (is_reply R B a.s a.t x r) (is_reply L (flip B) a.t a.s x r)
 
-pub replied_by : (why : Option Fault) (L R : Lts) (B : Pairing) (a : Ask) (r : Reply) → Lawful L → Lawful R → why ≡ None → replies_to L R B a (wanted L R a) r ≡ true → Replied why L R B a r
+pub replied_by : (why : Option Fault) (L R : Lts) (B : Pairing) (a : Ask) (r : Option Reply) → Lawful L → Lawful R → why ≡ None → replies_to L R B a (wanted L R a) r ≡ true → Replied why L R B a r
 replied_by why L R B a r lawL lawR free h = go (wanted L R a) refl h
   where
     side : (x : Step) (b : Bool) → cond b (is_reply R B a.s a.t x r) (is_reply L (flip B) a.t a.s x r) ≡ true → cond b (ReplyIs R B a.s a.t x r) (ReplyIs L (flip B) a.t a.s x r)
     side x true h = tells_reply R B a.s a.t x r h
     side x false h = tells_reply L (flip B) a.t a.s x r h
 
-    one : (x : Step) (b : Bool) → cond b (is_reply R B a.s a.t x r) (is_reply L (flip B) a.t a.s x r) ≡ true → (q : Reply) → cond b (ReplyIs R B a.s a.t x q) (ReplyIs L (flip B) a.t a.s x q) → q ≡ r
+    one : (x : Step) (b : Bool) → cond b (is_reply R B a.s a.t x r) (is_reply L (flip B) a.t a.s x r) ≡ true → (q : Option Reply) → cond b (ReplyIs R B a.s a.t x q) (ReplyIs L (flip B) a.t a.s x q) → q ≡ r
     one x true h q w = one_reply R B lawR a.s a.t x r h q w
     one x false h q w = one_reply L (flip B) lawL a.t a.s x r h q w
 

@@ -1,5 +1,5 @@
 -- Tests of sameness, and what they tell.
-use Rattle.std.proofs.Common.{◌≡◌, ℕ, Bool, true, false, cond, ◌&&◌, eqb, List, [], ◌∷◌, sym, refl, ap, ◌∙◌, ap₂}
+use Rattle.std.proofs.Common.{◌≡◌, ℕ, Bool, true, false, cond, ◌&&◌, eqb, List, [], ◌∷◌, Ok, Err, sym, refl, ap, ◌∙◌, ap₂}
 use Rattle.std.proofs.lemmas.Bool.{false≢true, and_parts, eqb-true}
 use Rattle.processes.specs.Sameness.{same_term}
 use Rattle.processes.specs.declared.terms.Term.{Term}
@@ -8,8 +8,7 @@ use Rattle.transitions.specs.declared.verdicts.Counterexample.TheVariants.{Start
 use Rattle.transitions.specs.declared.verdicts.Figures.{Figures}
 use Rattle.transitions.specs.declared.verdicts.Side.{Side}
 use Rattle.transitions.specs.declared.verdicts.Side.TheVariants.{Left, Right}
-use Rattle.transitions.specs.declared.verdicts.Verdict.{Verdict}
-use Rattle.transitions.specs.declared.verdicts.Verdict.TheVariants.{Matches, Fails}
+use Rattle.transitions.specs.Verdict.{Verdict}
 use Rattle.unfolding.proofs.Sameness.{same_then_is}
 use Rattle.unfolding.specs.Listing.{Move, move, same_move, Unfolded, table, refused}
 
@@ -75,21 +74,21 @@ side_of n = cond (eqb n 0) Left Right
 
 abbrev verdict_of : Figures → Verdict
 verdict_of f =
-    cond (eqb f.kind 0) Matches
-    (Fails
+    cond (eqb f.kind 0) (Ok tt)
+    (Err
     (cond (eqb f.kind 1) (StartMissing f.left f.right)
     (cond (eqb f.kind 2) (StepUnanswered f.left f.right (side_of f.side) f.place)
     (cond (eqb f.kind 3) (EndUnanswered f.left f.right (side_of f.side)) (RootUnanswered f.left f.right (side_of f.side) f.place)))))
 
 back : (v : Verdict) → verdict_of (figures v) ≡ v
-back Matches = refl
-back (Fails (StartMissing s t)) = refl
-back (Fails (StepUnanswered s t Left p)) = refl
-back (Fails (StepUnanswered s t Right p)) = refl
-back (Fails (EndUnanswered s t Left)) = refl
-back (Fails (EndUnanswered s t Right)) = refl
-back (Fails (RootUnanswered s t Left p)) = refl
-back (Fails (RootUnanswered s t Right p)) = refl
+back (Ok u) = refl
+back (Err (StartMissing s t)) = refl
+back (Err (StepUnanswered s t Left p)) = refl
+back (Err (StepUnanswered s t Right p)) = refl
+back (Err (EndUnanswered s t Left)) = refl
+back (Err (EndUnanswered s t Right)) = refl
+back (Err (RootUnanswered s t Left p)) = refl
+back (Err (RootUnanswered s t Right p)) = refl
 
 abbrev pub same_verdict : Verdict → Verdict → Bool
 same_verdict v w = same_figures (figures v) (figures w)

@@ -10,7 +10,7 @@ use Rattle.transitions.specs.Match.{Pairing}
 use Rattle.transitions.specs.Verdict.{VerdictIs, figures}
 use Rattle.transitions.specs.declared.replies.Reply.{Reply}
 use Rattle.transitions.specs.declared.verdicts.Figures.{Figures}
-use Rattle.transitions.specs.declared.verdicts.Verdict.{Verdict}
+use Rattle.transitions.specs.Verdict.{Verdict}
 use Rattle.worked.specs.Making.{Refuses, Makes, Lists}
 
 pub data Run : Type 0 where
@@ -23,7 +23,7 @@ pub data Run : Type 0 where
   -- the same without one of the pairs
   judges_without : (left right : List ℕ) (pairs : List (ℕ × ℕ)) (out : ℕ × ℕ) → Verdict → Figures → Run
   -- asked on such a sheet, the other state replies
-  replies : (left right : List ℕ) (pairs : List (ℕ × ℕ)) → Ask → Reply → Run
+  replies : (left right : List ℕ) (pairs : List (ℕ × ℕ)) → Ask → Option Reply → Run
 
 -- What stands on a sheet once the pairs are put there, one by one.
 abbrev pub putting : Pairing → List (ℕ × ℕ) → Pairing
@@ -46,9 +46,9 @@ pub record Told (why : Option Fault) (L R : Lts) (B : Pairing) (v : Verdict) (f 
   pub told : figures v ≡ f
 
 -- The call is not refused, and the reply is r and no other.
-pub record Replied (why : Option Fault) (L R : Lts) (B : Pairing) (ask : Ask) (r : Reply) : Type 0 where
+pub record Replied (why : Option Fault) (L R : Lts) (B : Pairing) (ask : Ask) (r : Option Reply) : Type 0 where
   pub says : ReplySays why L R B ask (Ok r)
-  pub no_other : (q : Reply) → ReplySays why L R B ask (Ok q) → q ≡ r
+  pub no_other : (q : Option Reply) → ReplySays why L R B ask (Ok q) → q ≡ r
 
 -- A sheet of the models' sizes; marks and a queue of the larger size.
 abbrev pub Holds : Run → Type 0

@@ -7,7 +7,7 @@ use pairings::standing::Pairing;
 use sheets::sheet::Sheet;
 use tables::steps_table::Table;
 use transitions::replies::Reply;
-use transitions::verdicts::Verdict;
+use transitions::verdicts::{Figures, Verdict};
 use worked::files::File;
 
 // What is asked of a sheet.
@@ -20,23 +20,23 @@ enum Call {
 
 // Five numbers. A verdict by its figures: the kind and the states, the side and the place. A reply that stays is 5, one that moves
 // is 6 with the state and the place, none is 7. A refusal is its number.
-type Figures = ((u8, usize, usize), (u8, usize));
+type Numbers = ((u8, usize, usize), (u8, usize));
 
-fn of_verdict(answer: Result<Verdict, Fault>) -> Figures {
+fn of_verdict(answer: Result<Verdict, Fault>) -> Numbers {
     match answer {
         Ok(verdict) => {
-            let f = verdict.figures();
+            let f = Figures::from(verdict);
             ((f.kind, f.left, f.right), (f.side, f.place))
         }
         Err(fault) => ((fault.number(), 0, 0), (0, 0)),
     }
 }
 
-fn of_reply(answer: Result<Reply, Fault>) -> Figures {
+fn of_reply(answer: Result<Option<Reply>, Fault>) -> Numbers {
     match answer {
-        Ok(Reply::Stays) => ((5, 0, 0), (0, 0)),
-        Ok(Reply::Moves(state, place)) => ((6, state, 0), (0, place)),
-        Ok(Reply::Nothing) => ((7, 0, 0), (0, 0)),
+        Ok(Some(Reply::Stays)) => ((5, 0, 0), (0, 0)),
+        Ok(Some(Reply::Moves(state, place))) => ((6, state, 0), (0, place)),
+        Ok(None) => ((7, 0, 0), (0, 0)),
         Err(fault) => ((fault.number(), 0, 0), (0, 0)),
     }
 }
@@ -47,7 +47,7 @@ fn answer<L: TransitionSystem, R: TransitionSystem>(
     right: &R,
     pairs: &[(usize, usize)],
     call: Call,
-) -> Figures {
+) -> Numbers {
     let mut bytes = [255u8; 4];
     let mut marks = [1u8; 8];
     let mut queue = [1u16; 8];
@@ -64,7 +64,7 @@ fn answer<L: TransitionSystem, R: TransitionSystem>(
 }
 
 // The same on the models of two files.
-fn between(left: File, right: File, pairs: &[(usize, usize)], call: Call) -> Figures {
+fn between(left: File, right: File, pairs: &[(usize, usize)], call: Call) -> Numbers {
     let l = table_of(left.bytes());
     let r = table_of(right.bytes());
     let left = Table::new(&l.ends, &l.steps, l.counts);

@@ -115,7 +115,7 @@ impl<'a> Sheet<'a> {
         ask: Ask,
         marks: &mut [u8],
         queue: &mut [u16],
-    ) -> Result<Reply, Fault>
+    ) -> Result<Option<Reply>, Fault>
         ensures { Replied (reply_refusal self.now (L.TransitionSystem.meaning left.now) (R.TransitionSystem.meaning right.now) (record { marks = marks.entry.now; queue = queue.old }) ask) (L.TransitionSystem.meaning left.now) (R.TransitionSystem.meaning right.now) (pairs self.now) ask (record { marks = marks.entry.now; queue = queue.old }) (record { marks = marks.exit.now; queue = queue.new }) result }
     {
         if let Some(fault) = self.first_unfit(left, right) {
