@@ -7,10 +7,10 @@ pub returns-then-stays : goal.returns-then-stays
 returns-then-stays g c =
     record { is = replies_stay (g.R.TransitionSystem.meaning c.args.right.now) (g.P.Pairing.standing c.args.pairing.now) c.args.s c.args.t c.args.want (sym c.if-stays.ensures); clean = c.requires.clean }
 
-pub returns-in-Some : goal.returns-in-Some
-returns-in-Some g c =
-    record { is = replies_move _ _ _ _ c.args.want (sym c.if-stays.ensures) _ c.in-Some.ensures.found; clean = c.search.ensures.clean }
+pub returns : goal.returns
+returns g c =
+    record { is = replies_move _ _ _ _ c.args.want (sym c.if-stays.ensures) _ c.in_ok-found.ensures.found; clean = c.search.ensures.clean }
 
-pub returns-in-None : goal.returns-in-None
-returns-in-None g c =
-    record { is = answered_none _ _ _ _ c.args.want (sym c.if-stays.ensures) c.in-None.ensures.found; clean = c.search.ensures.clean }
+pub returns-in_err-found : goal.returns-in_err-found
+returns-in_err-found g c =
+    record { is = rw c.from_residual.ensures (answered_none _ _ _ _ c.args.want (sym c.if-stays.ensures) c.in_err-found.ensures.found); clean = c.search.ensures.clean }
