@@ -5,6 +5,7 @@ use Rattle.acceptance.proofs.Circling.{ring_found}
 use Rattle.acceptance.specs.Accepted.{EquationFits, Earlier, TermFits}
 use Rattle.acceptance.specs.Walks.{silent_ring}
 use Rattle.processes.specs.Sameness.{first, second, same_equation, same_term}
+use Rattle.processes.proofs.Sameness.{same_then_is, same_as_itself, same_line_is, line_as_itself}
 use Rattle.processes.specs.declared.equations.Equation.{Equation}
 use Rattle.processes.specs.declared.equations.Equation.TheVariants as equation
 use Rattle.processes.specs.declared.terms.Term.{Term}
@@ -156,7 +157,7 @@ module _ (R : Room) (t : Tables) (ok : Accepted R t) where
       let next : ToldAll S₁ (terms_before (suc (length S₁.terms)) ts []) = terms_told ts S₁ ev ep el (append_assoc S.terms (d ∷ []) ts ∙ ap (λ z. S.terms ++ (z ∷ ts)) de ∙ et) (omega arith) (omega arith) in
       let idx : suc (length (S.terms ++ (d ∷ []))) ≡ suc n = omega arith in
       let limit : over_limit S.variables (term_says n e) ≡ false = limit_no S.variables n e f (subst (λ v. TermBelow v e) (sym ev) b) in
-      let fresh : any (λ s. same_term s d) S.terms ≡ false = subst (λ z. any (λ s. same_term s z) S.terms ≡ false) (sym de) (fresh_at same_term S.terms e ts t.terms et ok.tables.terms_once) in
+      let fresh : any (λ s. same_term s d) S.terms ≡ false = subst (λ z. any (λ s. same_term s z) S.terms ≡ false) (sym de) (fresh_at same_term same_then_is same_as_itself S.terms e ts t.terms et ok.tables.terms_once) in
       let free : full 256 R.for_terms (length S.terms) ≡ false = full_no 256 R.for_terms S.terms e ts t.terms et few ok.terms_room in (
         next.0,
         told_next (no_fault R S (term_says n e) (turn_ok S.turn 3 l (omega arith) (omega arith)) limit (or_no (ap not (eq-eqb n n refl)) (earlier_no n e f)) (odd_no n e f) fresh free refl refl)
@@ -176,7 +177,7 @@ module _ (R : Room) (t : Tables) (ok : Accepted R t) where
         next.0,
         equation_told R x S _ t.start next.0 (subst (λ v. v ≤ 256) (sym ev) ok.variables_few) l m (subst (λ v. EquationBelow v x) (sym ev) below)
             (at_mid (λ _. EquationFits) S.equations x es t.equations _ el ok.tables.equations_fit)
-            (fresh_at same_equation S.equations x es t.equations el ok.tables.equations_once)
+            (fresh_at same_equation same_line_is line_as_itself S.equations x es t.equations el ok.tables.equations_once)
             (full_no 1024 R.for_equations S.equations x es t.equations el ok.tables.equations_few ok.equations_room)
             next.1,
         next.2,

@@ -1,7 +1,8 @@
--- Whether any entry is the same as another, by what the search of them tells.
-use Rattle.std.proofs.Common.{◌≡◌, ℕ, zero, suc, ◌<◌, Bool, true, false, List, [], ◌∷◌, length, get_or, is_some, Some, None, Option, sym, refl, arith}
+-- Whether any entry is the same as another, by what a search tells.
+use Rattle.std.proofs.Common.{◌≡◌, ℕ, zero, suc, ◌<◌, Bool, true, false, ◌||◌, List, [], ◌∷◌, length, get_or, refl, ap, ◌∙◌, arith}
 use Rattle.std.proofs.lemmas.Bool.{or_left, or_right, or_from}
-use Rattle.rows.specs.Found.{Found}
+use Rattle.std.specs.List.{list_any}
+use Rattle.rows.proofs.Sameness.{listed}
 use Rattle.modelfile.specs.Tests.{any}
 
 any_at : {A : Type 0} (P : A → Bool) (xs : List A) (i : ℕ) (d : A) → i < length xs → P (get_or xs i d) ≡ true → any P xs ≡ true
@@ -13,6 +14,11 @@ pub any_none : {A : Type 0} (P : A → Bool) (xs : List A) (d : A) → ((k : ℕ
 any_none P [] d h = refl
 any_none P (x ∷ xs) d h = or_from (P x) (any P xs) (h 0 (omega arith)) (any_none P xs d (λ k l. h (suc k) (omega arith)))
 
-pub found_any : {T : Type 0} (same : T → T → Bool) (xs : List T) (x : T) (o : Option ℕ) → Found same xs x o → is_some o ≡ any (λ y. same y x) xs
-found_any same xs x (Some i) f = sym (any_at (λ y. same y x) xs i x f.0 f.1)
-found_any same xs x None f = sym (any_none (λ y. same y x) xs x f)
+pub any_is : {A : Type 0} (P : A → Bool) (xs : List A) → list_any P xs ≡ any P xs
+any_is P [] = refl
+any_is P (x ∷ xs) = ap (λ b. P x || b) (any_is P xs)
+
+-- a list holds an entry where some entry is the same
+pub holds_any : {T : Type 0} (same : T → T → Bool) → ((x y : T) → same x y ≡ true → x ≡ y) → ((x : T) → same x x ≡ true)
+    → (f : T → T → Bool) → ((x y : T) → f x y ≡ true → x ≡ y) → ((x : T) → f x x ≡ true) → (x : T) (xs : List T) → list_any (λ y. f y x) xs ≡ any (λ y. same y x) xs
+holds_any same exact reflexive f e r x xs = listed same exact reflexive f e r x xs ∙ any_is (λ y. same y x) xs

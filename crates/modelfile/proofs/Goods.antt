@@ -5,6 +5,7 @@ use Rattle.acceptance.specs.Accepted.{EquationFits, equation_at, Earlier, TermFi
 use Rattle.acceptance.specs.Walks.{silent_ring}
 use Rattle.rows.specs.Found.{Differ}
 use Rattle.processes.specs.Sameness.{same_equation, same_term}
+use Rattle.processes.proofs.Sameness.{same_then_is, same_as_itself, same_line_is, line_as_itself}
 use Rattle.processes.specs.declared.equations.Equation.{Equation}
 use Rattle.processes.specs.declared.equations.Equation.TheVariants as equation
 use Rattle.processes.specs.declared.terms.Term.{Term}
@@ -142,10 +143,10 @@ module _ (R : Room) where
     pub lines_once : Once S.lines
     pub equations_fit : (k : ℕ) → k < length S.equations → EquationFits (equation_at S.equations k)
     pub equations_below : (k : ℕ) → k < length S.equations → EquationBelow S.variables (equation_at S.equations k)
-    pub equations_once : Differ same_equation S.equations
+    pub equations_once : Differ S.equations
     pub terms_fit : (k : ℕ) → k < length S.terms → TermFits (k + 1) (entry_at S.terms k)
     pub terms_below : (k : ℕ) → k < length S.terms → TermBelow S.variables (entry_at S.terms k)
-    pub terms_once : Differ same_term S.terms
+    pub terms_once : Differ S.terms
 
   abbrev pub said_at : ℕ → Sofar → List Said
   said_at zero S = []
@@ -175,7 +176,7 @@ module _ (R : Room) where
         lines_once = g.lines_once;
         equations_fit = place_snoc (λ _. EquationFits) S.equations e _ g.equations_fit w.1;
         equations_below = place_snoc (λ _. EquationBelow S.variables) S.equations e _ g.equations_below w.0;
-        equations_once = differ_snoc same_equation S.equations e g.equations_once f;
+        equations_once = differ_snoc same_equation same_line_is line_as_itself S.equations e g.equations_once f;
         terms_fit = g.terms_fit;
         terms_below = g.terms_below;
         terms_once = g.terms_once;
@@ -243,7 +244,7 @@ module _ (R : Room) where
         equations_once = g.equations_once;
         terms_fit = place_snoc (λ k. TermFits (k + 1)) S.terms t _ g.terms_fit (subst (λ n. TermFits n t) e (term_fits S.variables m k i j p.within_limit w.1 p.all_visible));
         terms_below = place_snoc (λ _. TermBelow S.variables) S.terms t _ g.terms_below (term_below S.variables m k i j p.within_limit f);
-        terms_once = differ_snoc same_term S.terms t g.terms_once p.not_said;
+        terms_once = differ_snoc same_term same_then_is same_as_itself S.terms t g.terms_once p.not_said;
       }
   good_after S (Starts m) g p n f = let z : ◌≡◌ {A = ℕ} 0 1 = cc in absurd (omega arith)
 

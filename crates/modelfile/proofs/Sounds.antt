@@ -4,6 +4,7 @@ use Rattle.acceptance.proofs.Circling.{no_ring}
 use Rattle.tokens.specs.Lines.{raw_lines}
 use Rattle.tokens.specs.declared.said.Said.{Said}
 use Rattle.tokens.specs.declared.said.Said.TheVariants.{Variables, Starts}
+use Rattle.rows.proofs.Sameness.{nothing_twice}
 use Rattle.modelfile.specs.declared.faults.Fault.TheVariants.{TooLong}
 use Rattle.modelfile.specs.Accepted.{Room, Accepted}
 use Rattle.modelfile.specs.Computed.{Answer, read, refused_at, read_lines, reading}
@@ -68,10 +69,10 @@ module _ (R : Room) where
     lines_once = λ j k a b l m _ _. omega arith;
     equations_fit = λ k l. absurd (omega arith);
     equations_below = λ k l. absurd (omega arith);
-    equations_once = λ j k d l m. absurd (omega arith);
+    equations_once = nothing_twice;
     terms_fit = λ k l. absurd (omega arith);
     terms_below = λ k l. absurd (omega arith);
-    terms_once = λ j k d l m. absurd (omega arith);
+    terms_once = nothing_twice;
   }
 
   written_end : (ss : List Said) (s : Said) → written ss ++ written_line s ≡ written (ss ++ (s ∷ []))

@@ -1,0 +1,40 @@
+-- A test that holds exactly of one thing and itself, beside identity.
+use Rattle.std.proofs.Common.{◌≡◌, ℕ, ◌<◌, Bool, true, false, ◌||◌, List, [], ◌∷◌, length, get_or, Some, sym, refl, ◌∙◌, ap, ap₂, subst, inl, inr, arith}
+use Rattle.std.proofs.lemmas.Bool.{both_ways, cases_Bool}
+use Rattle.std.proofs.lemmas.Option.{get_or_from_slice_get, slice_get-get_or, slice_get_within}
+use Rattle.std.specs.List.{list_any}
+use Rattle.rows.specs.Found.{Differ}
+
+-- no entry is the same as an earlier one
+abbrev pub DifferBy : {T : Type 0} → (T → T → Bool) → List T → Type 0
+DifferBy {T} same entries = (j k : ℕ) (d : T) → j < k → k < length entries → same (get_or entries j d) (get_or entries k d) ≡ false
+
+pub nothing_twice : {T : Type 0} → Differ {T = T} []
+nothing_twice j k x l e f = cc
+
+module _ {T : Type 0} (same : T → T → Bool) (exact : (x y : T) → same x y ≡ true → x ≡ y) (reflexive : (x : T) → same x x ≡ true) where
+  -- another such test answers alike
+  pub agree : (f : T → T → Bool) → ((x y : T) → f x y ≡ true → x ≡ y) → ((x : T) → f x x ≡ true) → (x y : T) → f x y ≡ same x y
+  agree f e r x y = go (f x y) (same x y) refl refl
+    where
+      go : (a b : Bool) → f x y ≡ a → same x y ≡ b → a ≡ b
+      go true true p q = refl
+      go false false p q = refl
+      go true false p q = absurd (both_ways (same x y) q (subst (λ z. same x z ≡ true) (e x y p) (reflexive x)))
+      go false true p q = absurd (both_ways (f x y) p (subst (λ z. f x z ≡ true) (exact x y q) (r x)))
+
+  -- so a list holds one by the first test where some entry is the same by the second
+  pub listed : (f : T → T → Bool) → ((x y : T) → f x y ≡ true → x ≡ y) → ((x : T) → f x x ≡ true) → (x : T) (entries : List T) → list_any (λ y. f y x) entries ≡ list_any (λ y. same y x) entries
+  listed f e r x [] = refl
+  listed f e r x (y ∷ ys) = ap₂ ◌||◌ (agree f e r y x) (listed f e r x ys)
+
+  pub differ_by : (entries : List T) → Differ entries → DifferBy same entries
+  differ_by entries differ j k d l h =
+      elim (cases_Bool (same (get_or entries j d) (get_or entries k d))) [
+        | inl t ↦ absurd (differ j k (get_or entries j d) l (slice_get-get_or entries j d (omega arith)) (slice_get-get_or entries k d h ∙ ap Some (sym (exact (get_or entries j d) (get_or entries k d) t))))
+        | inr n ↦ n
+      ]
+
+  pub differ_from : (entries : List T) → DifferBy same entries → Differ entries
+  differ_from entries differ j k x l e f =
+      both_ways (same x x) (ap₂ same (sym (get_or_from_slice_get entries j x x e)) (sym (get_or_from_slice_get entries k x x f)) ∙ differ j k x l (slice_get_within entries k x f)) (reflexive x)
