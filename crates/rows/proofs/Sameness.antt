@@ -1,9 +1,9 @@
 -- A test that holds exactly of one thing and itself, beside identity.
-use Rattle.std.proofs.Common.{◌≡◌, ℕ, ◌<◌, Bool, true, false, ◌||◌, List, [], ◌∷◌, length, get_or, Some, sym, refl, ◌∙◌, ap, ap₂, subst, inl, inr, arith}
+use Rattle.std.proofs.Common.{◌≡◌, ℕ, ◌<◌, Bool, true, false, ◌||◌, List, [], ◌∷◌, length, get_or, slice_get, Some, None, Option, sym, refl, ◌∙◌, ap, ap₂, subst, inl, inr, arith}
 use Rattle.std.proofs.lemmas.Bool.{both_ways, cases_Bool}
 use Rattle.std.proofs.lemmas.Option.{get_or_from_slice_get, slice_get-get_or, slice_get_within}
 use Rattle.std.specs.List.{list_any}
-use Rattle.rows.specs.Found.{Differ}
+use Rattle.rows.specs.Found.{Differ, Found}
 
 -- no entry is the same as an earlier one
 abbrev pub DifferBy : {T : Type 0} → (T → T → Bool) → List T → Type 0
@@ -11,6 +11,11 @@ DifferBy {T} same entries = (j k : ℕ) (d : T) → j < k → k < length entries
 
 pub nothing_twice : {T : Type 0} → Differ {T = T} []
 nothing_twice j k x l e f = cc
+
+-- what a search by a test tells; past the end an entry reads as x
+abbrev pub FoundBy : {T : Type 0} → (T → T → Bool) → List T → T → Option ℕ → Type 0
+FoundBy same entries x (Some i) = (i < length entries) × (same (get_or entries i x) x ≡ true) × ((k : ℕ) → k < i → same (get_or entries k x) x ≡ false)
+FoundBy same entries x None = (k : ℕ) → k < length entries → same (get_or entries k x) x ≡ false
 
 module _ {T : Type 0} (same : T → T → Bool) (exact : (x y : T) → same x y ≡ true → x ≡ y) (reflexive : (x : T) → same x x ≡ true) where
   -- another such test answers alike
@@ -27,6 +32,17 @@ module _ {T : Type 0} (same : T → T → Bool) (exact : (x y : T) → same x y 
   pub listed : (f : T → T → Bool) → ((x y : T) → f x y ≡ true → x ≡ y) → ((x : T) → f x x ≡ true) → (x : T) (entries : List T) → list_any (λ y. f y x) entries ≡ list_any (λ y. same y x) entries
   listed f e r x [] = refl
   listed f e r x (y ∷ ys) = ap₂ ◌||◌ (agree f e r y x) (listed f e r x ys)
+
+  other : (entries : List T) (x : T) (k : ℕ) → k < length entries → (slice_get entries k ≡ Some x → ⊥) → same (get_or entries k x) x ≡ false
+  other entries x k l n =
+      elim (cases_Bool (same (get_or entries k x) x))
+      [ inl t ↦ absurd (n (slice_get-get_or entries k x l ∙ ap Some (exact (get_or entries k x) x t))) | inr f ↦ f ]
+
+  pub found_by : (entries : List T) (x : T) (r : Option ℕ) → Found entries x r → FoundBy same entries x r
+  found_by entries x None f = λ k l. other entries x k l (f k)
+  found_by entries x (Some i) f =
+      let l : i < length entries = slice_get_within entries i x f.0 in
+      (l, ap (λ y. same y x) (get_or_from_slice_get entries i x x f.0) ∙ reflexive x, λ k m. other entries x k (omega arith) (f.1 k m))
 
   pub differ_by : (entries : List T) → Differ entries → DifferBy same entries
   differ_by entries differ j k d l h =
