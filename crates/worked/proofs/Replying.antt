@@ -1,5 +1,5 @@
 -- The test of a reply: what passes is the reply, and there is no other.
-use Rattle.std.proofs.Common.{◌≡◌, ℕ, zero, suc, ◌<◌, Bool, true, false, cond, not, ◌&&◌, eqb, ltb, Some, None, Option, sym, refl, ◌∙◌, subst, ap₂, inl, inr, arith}
+use Rattle.std.proofs.Common.{◌≡◌, ℕ, zero, suc, ◌<◌, Bool, true, false, cond, not, ◌&&◌, eqb, ltb, Some, None, Option, sym, refl, ◌∙◌, ap, subst, ap₂, inl, inr, arith}
 use Rattle.std.proofs.lemmas.Bool.{false≢true, and_parts, and_from, and_left, and_right, eqb-true, eq-eqb, ne_eqb, ltb-true, not-true, not_from_false, cases_eq, cases_order}
 use Rattle.judging.specs.Replies.{wanted, RepliesTo}
 use Rattle.judging.specs.declared.replies.Ask.{Ask}
@@ -111,7 +111,7 @@ module _ (R : Lts) (B : Pairing) where
   one_reply law s t x (Some Stays) h (Some (Moves n q)) w = absurd (w.moves (tells_reply s t x (Some Stays) h))
   one_reply law s t x (Some Stays) h None w = absurd (w (inl (tells_reply s t x (Some Stays) h)))
   one_reply law s t x (Some (Moves m p)) h (Some Stays) w = absurd ((tells_reply s t x (Some (Moves m p)) h).moves w)
-  one_reply law s t x (Some (Moves m p)) h (Some (Moves n q)) w = one_move law s t x m p n q h w
+  one_reply law s t x (Some (Moves m p)) h (Some (Moves n q)) w = ap Some (one_move law s t x m p n q h w)
   one_reply law s t x (Some (Moves m p)) h None w = absurd (w (answers s t x m p (tells_reply s t x (Some (Moves m p)) h)))
   one_reply law s t x None h q w = absurd (false≢true h)
 
