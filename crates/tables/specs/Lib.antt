@@ -1,2 +1,5 @@
+pub mod Fitting
+pub mod Lines
 pub mod Meanings
+pub mod Moves
 pub mod Text
