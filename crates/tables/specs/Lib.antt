@@ -1,5 +1,4 @@
 pub mod Fitting
 pub mod Lines
 pub mod Meanings
-pub mod Moves
 pub mod Text

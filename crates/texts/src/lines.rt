@@ -28,7 +28,7 @@ impl Line {
     }
 
     // How long the line is.
-    pub fn len(&self) -> usize
+    pub fn length(&self) -> usize
         ensures long { result ≡ length (line_of self.now) }
         ensures most { result ≤ 20 }
     {
