@@ -1,1 +1,3 @@
-pub mod Texts
+pub mod Fits
+pub mod Telling
+pub mod Writing

@@ -1,2 +1,4 @@
+pub mod Fitting
+pub mod Lines
 pub mod Meanings
 pub mod Text

@@ -3,4 +3,3 @@
 
 mod fitting;
 pub mod steps_table;
-mod text;
