@@ -58,20 +58,23 @@ Writes ends steps n buffer buffer' a =
 
 -- ---- calls on a sheet
 
--- Kind 0 is done, 1 a verdict by its figures, 2 a reply (number 0 stays, 1 moves to a state and a place, 2 nothing), 3 a refusal.
+-- Kind 0 is done, 1 a verdict by its figures, 2 a reply (number 0 stays, 1 moves to a state and a place, 2 none), 3 a refusal.
+abbrev pub of_fault : Fault → Answer
+of_fault f = record { kind = 3; number = number f; left = 0; right = 0; side = 0; place = 0 }
+
 abbrev pub of_change : Result (Unit {0}) Fault → Answer
 of_change (Ok _) = record { kind = 0; number = 0; left = 0; right = 0; side = 0; place = 0 }
-of_change (Err f) = record { kind = 3; number = number f; left = 0; right = 0; side = 0; place = 0 }
+of_change (Err f) = of_fault f
 
 abbrev pub of_verdict : Result Verdict Fault → Answer
 of_verdict (Ok v) = record { kind = 1; number = (figures v).kind; left = (figures v).left; right = (figures v).right; side = (figures v).side; place = (figures v).place }
-of_verdict (Err f) = record { kind = 3; number = number f; left = 0; right = 0; side = 0; place = 0 }
+of_verdict (Err f) = of_fault f
 
 abbrev pub of_reply : Result (Option Reply) Fault → Answer
 of_reply (Ok (Some Stays)) = record { kind = 2; number = 0; left = 0; right = 0; side = 0; place = 0 }
 of_reply (Ok (Some (Moves state place))) = record { kind = 2; number = 1; left = state; right = 0; side = 0; place = place }
 of_reply (Ok None) = record { kind = 2; number = 2; left = 0; right = 0; side = 0; place = 0 }
-of_reply (Err f) = record { kind = 3; number = number f; left = 0; right = 0; side = 0; place = 0 }
+of_reply (Err f) = of_fault f
 
 -- The answer tells of some verdict or refusal.
 abbrev pub VerdictTold : Answer → Type 0

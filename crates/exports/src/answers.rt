@@ -1,15 +1,13 @@
 // What a call on a sheet answered, in numbers.
-ghost use Rattle.std.specs.Prelude.{◌≡◌};
-ghost use Rattle.exports.specs.Answers.{of_change, of_reply, of_verdict};
-
 use pairings::faults::Fault;
 use transitions::replies::Reply;
 use transitions::verdicts::{Figures, Verdict};
 
 // Kind 0 is done; 1 a verdict by its figures; 2 a reply, where number 0 stays, 1 moves to the state `left` and the place, and 2 is
-// nothing; 3 a refusal by its number. What is not used is 0.
+// none; 3 a refusal by its number. What is not used is 0.
+// Kept: kinds and refusals are numbers here, since the answer crosses to C.
 #[repr(C)]
-#[derive(Clone, Copy)]
+#[derive(Clone, Copy, Debug, PartialEq, Eq, Default)]
 pub struct Answer {
     pub kind: u8,
     pub number: u8,
@@ -19,54 +17,78 @@ pub struct Answer {
     pub place: usize,
 }
 
-fn plain(kind: u8, number: u8, left: usize, place: usize) -> Answer
-    ensures { result ≡ record { kind = kind; number = number; left = left; right = 0; side = 0; place = place } }
-{
-    Answer {
-        kind,
-        number,
-        left,
-        right: 0,
-        side: 0,
-        place,
-    }
-}
+impl From<Fault> for Answer {
+    ghost use Rattle.std.specs.Prelude.{◌≡◌};
+    ghost use Rattle.exports.specs.Answers.{of_fault};
 
-pub(crate) fn answer_of_change(res: Result<(), Fault>) -> Answer
-    ensures { result ≡ of_change res }
-{
-    match res {
-        Ok(_) => plain(0, 0, 0, 0),
-        Err(fault) => plain(3, fault.number(), 0, 0),
-    }
-}
+    ghost from_gives = { λ fault a. a ≡ of_fault fault };
 
-pub(crate) fn answer_of_verdict(res: Result<Verdict, Fault>) -> Answer
-    ensures { result ≡ of_verdict res }
-{
-    match res {
-        Ok(verdict) => {
-            let f = Figures::from(verdict);
-            Answer {
-                kind: 1,
-                number: f.kind,
-                left: f.left,
-                right: f.right,
-                side: f.side,
-                place: f.place,
-            }
+    fn from(fault: Fault) -> Answer {
+        Answer {
+            kind: 3,
+            number: fault.number(),
+            ..Answer::default()
         }
-        Err(fault) => plain(3, fault.number(), 0, 0),
     }
 }
 
-pub(crate) fn answer_of_reply(res: Result<Option<Reply>, Fault>) -> Answer
-    ensures { result ≡ of_reply res }
-{
-    match res {
-        Ok(Some(Reply::Stays)) => plain(2, 0, 0, 0),
-        Ok(Some(Reply::Moves(state, place))) => plain(2, 1, state, place),
-        Ok(None) => plain(2, 2, 0, 0),
-        Err(fault) => plain(3, fault.number(), 0, 0),
+impl From<Result<(), Fault>> for Answer {
+    ghost use Rattle.std.specs.Prelude.{◌≡◌};
+    ghost use Rattle.exports.specs.Answers.{of_change};
+
+    ghost from_gives = { λ r a. a ≡ of_change r };
+
+    fn from(res: Result<(), Fault>) -> Answer {
+        match res {
+            Ok(()) => Answer::default(),
+            Err(fault) => Answer::from(fault),
+        }
+    }
+}
+
+impl From<Result<Verdict, Fault>> for Answer {
+    ghost use Rattle.std.specs.Prelude.{◌≡◌};
+    ghost use Rattle.exports.specs.Answers.{of_verdict};
+
+    ghost from_gives = { λ r a. a ≡ of_verdict r };
+
+    fn from(res: Result<Verdict, Fault>) -> Answer {
+        match res {
+            Ok(verdict) => {
+                let f = Figures::from(verdict);
+                Answer {
+                    kind: 1,
+                    number: f.kind,
+                    left: f.left,
+                    right: f.right,
+                    side: f.side,
+                    place: f.place,
+                }
+            }
+            Err(fault) => Answer::from(fault),
+        }
+    }
+}
+
+impl From<Result<Option<Reply>, Fault>> for Answer {
+    ghost use Rattle.std.specs.Prelude.{◌≡◌};
+    ghost use Rattle.exports.specs.Answers.{of_reply};
+
+    ghost from_gives = { λ r a. a ≡ of_reply r };
+
+    fn from(res: Result<Option<Reply>, Fault>) -> Answer {
+        let (number, left, place) = match res {
+            Ok(Some(Reply::Stays)) => (0, 0, 0),
+            Ok(Some(Reply::Moves(state, place))) => (1, state, place),
+            Ok(None) => (2, 0, 0),
+            Err(fault) => return Answer::from(fault),
+        };
+        Answer {
+            kind: 2,
+            number,
+            left,
+            place,
+            ..Answer::default()
+        }
     }
 }

@@ -11,7 +11,7 @@ use transitions::steps::Step;
 
 // A state and a place to ask about.
 #[repr(C)]
-#[derive(Clone, Copy)]
+#[derive(Clone, Copy, Debug, PartialEq, Eq)]
 pub struct Question {
     pub state: usize,
     pub place: usize,
@@ -19,7 +19,7 @@ pub struct Question {
 
 // What a model answers: its sizes and start, whether the state may end, and the step at the place, all 0 where there is none.
 #[repr(C)]
-#[derive(Clone, Copy)]
+#[derive(Clone, Copy, Debug, PartialEq, Eq)]
 pub struct Told {
     pub states: usize,
     pub start: usize,
@@ -58,11 +58,10 @@ fn tell_all<M: TransitionSystem + Drop>(
 ) -> usize
     ensures { result ≡ min (length questions.now) (length told.old) }
 {
-    let count = questions.len().min(told.len());
-    for i in 0..count {
-        told[i] = tell(&model, questions[i]);
+    for (answer, question) in told.iter_mut().zip(questions) {
+        *answer = tell(&model, *question);
     }
-    count
+    questions.len().min(told.len())
 }
 
 fn ask_built<M: TransitionSystem + Copy, C: Communication + Copy>(

@@ -1,7 +1,7 @@
 // A list of calls on a sheet.
 ghost use Rattle.std.specs.Prelude.{◌≡◌, min, length};
 
-use crate::answers::{Answer, answer_of_change, answer_of_reply, answer_of_verdict};
+use crate::answers::Answer;
 use crate::building::{Bare, Joining, Parts, Rows, build, parts_of};
 use crate::descriptions::Description;
 use actions::communications::Communication;
@@ -19,6 +19,7 @@ use transitions::lines::JoinLine;
 use transitions::steps::Step;
 use transitions::verdicts::Verdict;
 
+// Kept: the kind is a number and models are named by flags, since calls cross to C.
 // Kind 0 pairs, 1 unpairs, 2 judges, 3 judges without a pair, 4 replies; 5 judges and 6 replies with the sheet as a plain pairing; 7
 // judges with the sides exchanged; any other judges both models merged by ports with the left one, beside the sheet. Those that look at models take the first two, or the other two where that is said. `marks` and
 // `queue` are the entries lent, at most all.
@@ -65,16 +66,16 @@ fn look<L: TransitionSystem, R: TransitionSystem>(
         place: call.place,
     };
     match call.kind {
-        2 => answer_of_verdict(sheet.judge(left, right, marks, queue)),
-        3 => answer_of_verdict(sheet.without(left, right, call.s, call.t, marks, queue)),
-        4 => answer_of_reply(sheet.reply(left, right, ask, marks, queue)),
-        5 => answer_of_verdict(judge(left, right, &*sheet, marks, queue)),
-        6 => answer_of_reply(reply(left, right, &*sheet, ask, marks, queue)),
+        2 => Answer::from(sheet.judge(left, right, marks, queue)),
+        3 => Answer::from(sheet.without(left, right, call.s, call.t, marks, queue)),
+        4 => Answer::from(sheet.reply(left, right, ask, marks, queue)),
+        5 => Answer::from(judge(left, right, &*sheet, marks, queue)),
+        6 => Answer::from(reply(left, right, &*sheet, ask, marks, queue)),
         7 => {
             let flipped = Flipped { pairing: &*sheet };
-            answer_of_verdict(judge(right, left, &flipped, marks, queue))
+            Answer::from(judge(right, left, &flipped, marks, queue))
         }
-        _ => answer_of_verdict(judge_beside(sheet, left, right, marks, queue)),
+        _ => Answer::from(judge_beside(sheet, left, right, marks, queue)),
     }
 }
 
@@ -88,8 +89,8 @@ fn make<L: TransitionSystem, R: TransitionSystem>(
     queue: &mut [u16],
 ) -> Answer {
     match call.kind {
-        0 => answer_of_change(sheet.pair(call.s, call.t)),
-        1 => answer_of_change(sheet.unpair(call.s, call.t)),
+        0 => Answer::from(sheet.pair(call.s, call.t)),
+        1 => Answer::from(sheet.unpair(call.s, call.t)),
         _ => {
             let m = call.marks.min(marks.len());
             let q = call.queue.min(queue.len());
@@ -115,26 +116,17 @@ fn make_with<M: TransitionSystem>(
     marks: &mut [u8],
     queue: &mut [u16],
 ) -> Answer {
-    if call.other_left {
-        if call.other_right {
-            make(
-                sheet,
-                &models.other_left,
-                &models.other_right,
-                call,
-                marks,
-                queue,
-            )
-        } else {
-            make(sheet, &models.other_left, &models.right, call, marks, queue)
-        }
+    let left = if call.other_left {
+        &models.other_left
     } else {
-        if call.other_right {
-            make(sheet, &models.left, &models.other_right, call, marks, queue)
-        } else {
-            make(sheet, &models.left, &models.right, call, marks, queue)
-        }
-    }
+        &models.left
+    };
+    let right = if call.other_right {
+        &models.other_right
+    } else {
+        &models.right
+    };
+    make(sheet, left, right, call, marks, queue)
 }
 
 // Opens a sheet, makes every call, and tells how many were made.
@@ -149,11 +141,10 @@ fn make_all<M: TransitionSystem + Drop>(
     ensures { result ≡ min (length calls.now) (length answers.old) }
 {
     let mut sheet = Sheet::open(bytes, &models.left, &models.right);
-    let count = calls.len().min(answers.len());
-    for i in 0..count {
-        answers[i] = make_with(&mut sheet, &models, calls[i], marks, queue);
+    for (answer, call) in answers.iter_mut().zip(calls) {
+        *answer = make_with(&mut sheet, &models, *call, marks, queue);
     }
-    count
+    calls.len().min(answers.len())
 }
 
 fn make_built<M: TransitionSystem + Copy, C: Communication + Copy>(

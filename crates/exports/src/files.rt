@@ -1,10 +1,7 @@
 // Reading, unfolding, and the text of a table.
-ghost use Rattle.std.specs.Prelude.{◌≡◌};
-ghost use Rattle.exports.specs.Answers.{of_reading, of_unfolding, of_writing, Reads, Unfolds, Writes};
+ghost use Rattle.exports.specs.Answers.{Reads, Unfolds, Writes};
 
-use crate::entries::{
-    EquationEntry, TermEntry, give_equations, give_terms, take_equations, take_terms,
-};
+use crate::entries::{EquationEntry, TermEntry, convert};
 use modelfile::answers::{Counts as Filled, Refusal as Refused};
 use modelfile::reading::read;
 use processes::equations::Equation;
@@ -16,9 +13,10 @@ use unfolding::counts::Counts;
 use unfolding::refusals::Refusal;
 use unfolding::unfolds::unfold;
 
+// Kept: a refusal is a number in these three, and 0 a success, since they cross to C.
 // Number 0 and the counts, or the number of a refusal and its line.
 #[repr(C)]
-#[derive(Clone, Copy)]
+#[derive(Clone, Copy, Debug, PartialEq, Eq, Default)]
 pub struct Reading {
     pub number: u8,
     pub line: usize,
@@ -31,7 +29,7 @@ pub struct Reading {
 
 // Number 0 and the counts, or the number of a refusal.
 #[repr(C)]
-#[derive(Clone, Copy)]
+#[derive(Clone, Copy, Debug, PartialEq, Eq, Default)]
 pub struct Unfolding {
     pub number: u8,
     pub terms: usize,
@@ -41,65 +39,74 @@ pub struct Unfolding {
 
 // Number 0 and the length of the text, or the number of a refusal.
 #[repr(C)]
-#[derive(Clone, Copy)]
+#[derive(Clone, Copy, Debug, PartialEq, Eq, Default)]
 pub struct Writing {
     pub number: u8,
     pub length: usize,
 }
 
-fn reading_of(res: Result<Filled, Refused>) -> Reading
-    ensures { result ≡ of_reading res }
-{
-    match res {
-        Ok(n) => Reading {
-            number: 0,
-            line: 0,
-            variables: n.variables,
-            lines: n.lines,
-            equations: n.equations,
-            terms: n.terms,
-            start: n.start,
-        },
-        Err(refusal) => Reading {
-            number: refusal.fault.number(),
-            line: refusal.line,
-            variables: 0,
-            lines: 0,
-            equations: 0,
-            terms: 0,
-            start: 0,
-        },
+impl From<Result<Filled, Refused>> for Reading {
+    ghost use Rattle.std.specs.Prelude.{◌≡◌};
+    ghost use Rattle.exports.specs.Answers.{of_reading};
+
+    ghost from_gives = { λ r a. a ≡ of_reading r };
+
+    fn from(res: Result<Filled, Refused>) -> Reading {
+        match res {
+            Ok(n) => Reading {
+                number: 0,
+                line: 0,
+                variables: n.variables,
+                lines: n.lines,
+                equations: n.equations,
+                terms: n.terms,
+                start: n.start,
+            },
+            Err(refusal) => Reading {
+                number: refusal.fault.number(),
+                line: refusal.line,
+                ..Reading::default()
+            },
+        }
     }
 }
 
-fn unfolding_of(res: Result<Counts, Refusal>) -> Unfolding
-    ensures { result ≡ of_unfolding res }
-{
-    match res {
-        Ok(n) => Unfolding {
-            number: 0,
-            terms: n.terms,
-            steps: n.steps,
-            start: n.start,
-        },
-        Err(refusal) => Unfolding {
-            number: refusal.number(),
-            terms: 0,
-            steps: 0,
-            start: 0,
-        },
+impl From<Result<Counts, Refusal>> for Unfolding {
+    ghost use Rattle.std.specs.Prelude.{◌≡◌};
+    ghost use Rattle.exports.specs.Answers.{of_unfolding};
+
+    ghost from_gives = { λ r a. a ≡ of_unfolding r };
+
+    fn from(res: Result<Counts, Refusal>) -> Unfolding {
+        match res {
+            Ok(n) => Unfolding {
+                number: 0,
+                terms: n.terms,
+                steps: n.steps,
+                start: n.start,
+            },
+            Err(refusal) => Unfolding {
+                number: refusal.number(),
+                ..Unfolding::default()
+            },
+        }
     }
 }
 
-fn writing_of(res: Result<usize, Refusal>) -> Writing
-    ensures { result ≡ of_writing res }
-{
-    match res {
-        Ok(length) => Writing { number: 0, length },
-        Err(refusal) => Writing {
-            number: refusal.number(),
-            length: 0,
-        },
+impl From<Result<usize, Refusal>> for Writing {
+    ghost use Rattle.std.specs.Prelude.{◌≡◌};
+    ghost use Rattle.exports.specs.Answers.{of_writing};
+
+    ghost from_gives = { λ r a. a ≡ of_writing r };
+
+    fn from(res: Result<usize, Refusal>) -> Writing {
+        match res {
+            Ok(length) => Writing { number: 0, length },
+            Err(refusal) => Writing {
+                number: refusal.number(),
+                length: 0,
+            },
+        }
     }
 }
 
@@ -116,12 +123,12 @@ fn read_by(
 {
     let e = equations.len().min(does.len());
     let t = terms.len().min(gives.len());
-    take_equations(equations, does);
-    take_terms(terms, gives);
+    convert(equations, does);
+    convert(terms, gives);
     let result = read(bytes, lines, &mut does[0..e], &mut gives[0..t]);
-    give_equations(does, equations);
-    give_terms(gives, terms);
-    reading_of(result)
+    convert(does, equations);
+    convert(gives, terms);
+    Reading::from(result)
 }
 
 // Reads a model file into the tables lent: of the equations at most 1,040 entries are used, and of the terms at most 272.
@@ -153,10 +160,10 @@ fn unfold_by(
     ensures { Unfolds lines.now start steps.old steps.new ends.old ends.new result }
 {
     let t = terms.len().min(made.len());
-    take_terms(terms, made);
+    convert(terms, made);
     let result = unfold(lines, equations, file, start, &mut made[0..t], steps, ends);
-    give_terms(made, terms);
-    unfolding_of(result)
+    convert(made, terms);
+    Unfolding::from(result)
 }
 
 // Unfolds the lines, equations, terms and start handed over into the tables lent: at most 1,040 equations and 272 terms are looked
@@ -178,8 +185,8 @@ pub extern "C" fn dimityrock_unfold(
     let mut does = [Equation::Ends(0, 0); 1040];
     let mut gives = [Term::Action(0); 272];
     let mut made = [Term::Action(0); 4112];
-    take_equations(equations, &mut does);
-    take_terms(file, &mut gives);
+    convert(equations, &mut does);
+    convert(file, &mut gives);
     unfold_by(
         lines,
         &does[0..e],
@@ -213,5 +220,5 @@ pub extern "C" fn dimityrock_write(
             start,
         },
     );
-    writing_of(table.write(text))
+    Writing::from(table.write(text))
 }

@@ -3,7 +3,7 @@
 ghost use Rattle.std.specs.Prelude.{◌≡◌};
 ghost use Rattle.exports.specs.Answers.{VerdictTold};
 
-use crate::answers::{Answer, answer_of_verdict};
+use crate::answers::Answer;
 use crate::building::layer;
 use crate::descriptions::Sets;
 use actions::ports::Ports;
@@ -27,7 +27,7 @@ fn judge_itself<M: TransitionSystem>(
     for s in 0..model.states() {
         let _ = sheet.pair(s, s);
     }
-    answer_of_verdict(sheet.judge(model, model, marks, queue))
+    Answer::from(sheet.judge(model, model, marks, queue))
 }
 
 // A counter that takes by action 1 and gives by action 2, under the sets.
