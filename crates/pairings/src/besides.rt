@@ -29,9 +29,6 @@ impl<'a, P: Pairing> Pairing for Beside<'a, P> {
 
     fn stands(&self, s: usize, t: usize) -> bool {
         let n = self.third;
-        if n == 0 {
-            return false;
-        }
-        self.pairing.stands(s / n, t / n) && s % n == t % n
+        n != 0 && self.pairing.stands(s / n, t / n) && s % n == t % n
     }
 }

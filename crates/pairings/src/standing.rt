@@ -14,11 +14,6 @@ pub trait Pairing {
     fn next_standing(&self, s: usize, from: usize, below: usize) -> Option<usize>
         ensures { Next (standing self.now s) from below result }
     {
-        for t in from..below {
-            if self.stands(s, t) {
-                return Some(t);
-            }
-        }
-        None
+        (from..below).find(|&t| self.stands(s, t))
     }
 }
