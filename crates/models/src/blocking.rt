@@ -1,7 +1,6 @@
 // A model without the steps whose action is in a set (encapsulation).
 ghost use Rattle.std.specs.Prelude.{◌≡◌};
 ghost use Rattle.actions.specs.Sets.{has};
-ghost use Rattle.models.specs.Meanings.{of_blocked};
 ghost use Rattle.transitions.proofs.Lawfully.{block_lawful};
 ghost use Rattle.transitions.specs.Made.{block, dropping};
 ghost use Rattle.transitions.specs.Rules.{Blocks};
@@ -31,8 +30,8 @@ impl Relabel for Blocking {
 impl<M: TransitionSystem> Relabelled<M, Blocking> {
     // Over an empty model it is empty, as the model beneath is.
     pub fn new(model: M, set: ActionSet) -> Self
-        ensures is { of_blocked M.TransitionSystem.meaning result ≡ block (has set) (M.TransitionSystem.meaning model) }
-        ensures rules { Blocks (has set) (M.TransitionSystem.meaning model) (of_blocked M.TransitionSystem.meaning result) }
+        ensures is { ⟦<Self as TransitionSystem>⟧.meaning result ≡ block (has set) (M.TransitionSystem.meaning model) }
+        ensures rules { Blocks (has set) (M.TransitionSystem.meaning model) (⟦<Self as TransitionSystem>⟧.meaning result) }
     {
         Relabelled {
             model,

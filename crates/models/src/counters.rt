@@ -24,11 +24,9 @@ fn is_countable(cap: usize, take: u8, give: u8) -> bool
 }
 
 impl Counter {
-    ghost use Rattle.models.specs.Meanings.{of_counter};
-
     // Takes and gives back one place at a time, from 0 to the cap. The empty model where a number is outside the limits.
     pub fn new(cap: usize, take: u8, give: u8) -> Self
-        ensures { CounterIs cap take give (of_counter result) }
+        ensures { CounterIs cap take give (⟦<Self as TransitionSystem>⟧.meaning result) }
     {
         if !is_countable(cap, take, give) {
             return Counter {
@@ -46,9 +44,7 @@ impl Counter {
 }
 
 impl TransitionSystem for Counter {
-    ghost use Rattle.models.specs.Meanings.{of_counter};
-
-    ghost meaning = { of_counter };
+    ghost meaning = { λ c. counting c.size c.take c.give };
 
     ghost lawful = { λ c. counting_lawful c.few c.take_fits c.give_fits };
 

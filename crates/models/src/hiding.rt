@@ -1,7 +1,6 @@
 // A model in which the actions of a set are silent (abstraction).
 ghost use Rattle.std.specs.Prelude.{◌≡◌};
 ghost use Rattle.actions.specs.Sets.{has};
-ghost use Rattle.models.specs.Meanings.{of_hidden};
 ghost use Rattle.transitions.proofs.Lawfully.{hide_lawful};
 ghost use Rattle.transitions.specs.Made.{hide, silencing};
 ghost use Rattle.transitions.specs.Rules.{Hides};
@@ -31,8 +30,8 @@ impl Relabel for Hiding {
 impl<M: TransitionSystem> Relabelled<M, Hiding> {
     // Over an empty model it is empty, as the model beneath is.
     pub fn new(model: M, set: ActionSet) -> Self
-        ensures is { of_hidden M.TransitionSystem.meaning result ≡ hide (has set) (M.TransitionSystem.meaning model) }
-        ensures rules { Hides (has set) (M.TransitionSystem.meaning model) (of_hidden M.TransitionSystem.meaning result) }
+        ensures is { ⟦<Self as TransitionSystem>⟧.meaning result ≡ hide (has set) (M.TransitionSystem.meaning model) }
+        ensures rules { Hides (has set) (M.TransitionSystem.meaning model) (⟦<Self as TransitionSystem>⟧.meaning result) }
     {
         Relabelled {
             model,

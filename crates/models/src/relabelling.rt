@@ -1,6 +1,5 @@
 // A model whose steps are relabelled: each action becomes another one, or its step is dropped. The rest is as beneath.
 ghost use Rattle.std.specs.Prelude.{◌≡◌};
-ghost use Rattle.models.specs.Meanings.{of_relabelled};
 ghost use Rattle.transitions.specs.Lts.{Lts, Lawful};
 ghost use Rattle.transitions.specs.Made.{Change, relabel};
 
@@ -24,7 +23,7 @@ pub struct Relabelled<M, R> {
 }
 
 impl<M: TransitionSystem, R: Relabel> TransitionSystem for Relabelled<M, R> {
-    ghost meaning = { of_relabelled R.Relabel.becomes M.TransitionSystem.meaning };
+    ghost meaning = { λ m. relabel (R.Relabel.becomes m.labels) (M.TransitionSystem.meaning m.model) };
 
     ghost lawful = { λ m. R.Relabel.lawful m.labels (M.TransitionSystem.lawful m.model) };
 
