@@ -15,6 +15,7 @@ pub struct Blocking {
     set: ActionSet,
 }
 
+// The model beneath without those steps.
 pub type Blocked<M> = Relabelled<M, Blocking>;
 
 impl Relabel for Blocking {

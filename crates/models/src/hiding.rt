@@ -15,6 +15,7 @@ pub struct Hiding {
     set: ActionSet,
 }
 
+// The model beneath with those steps silent.
 pub type Hidden<M> = Relabelled<M, Hiding>;
 
 impl Relabel for Hiding {

@@ -12,10 +12,12 @@ pub trait Relabel {
 
     ghost lawful: { (r : Self) {L : Lts} → Lawful L → Lawful (relabel (becomes r) L) };
 
+    // The action that a step of this action has afterwards, or none where the step is dropped.
     fn relabel(&self, action: u8) -> Option<u8>
         ensures { result ≡ becomes self.now action };
 }
 
+// The model beneath and what becomes of its actions.
 #[derive(Drop)]
 pub struct Relabelled<M, R> {
     pub(crate) model: M,
