@@ -1,3 +1,3 @@
-pub mod Meanings
+pub mod Either
 pub mod Optional
 pub mod Sizes

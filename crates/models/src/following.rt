@@ -5,14 +5,14 @@ ghost use Rattle.transitions.specs.Following.{FirstStep, HasNoStep, Repeated};
 use crate::systems::TransitionSystem;
 
 // A place of a state, and where its step leads.
-#[derive(Clone, Copy)]
+#[derive(Clone, Copy, Debug, PartialEq, Eq)]
 pub struct Placed {
     pub place: usize,
     pub target: usize,
 }
 
 // How often an action was done, and the state where that ended.
-#[derive(Clone, Copy)]
+#[derive(Clone, Copy, Debug, PartialEq, Eq)]
 pub struct Walk {
     pub turns: u16,
     pub state: usize,
@@ -22,17 +22,13 @@ pub struct Walk {
 pub fn first_step<M: TransitionSystem>(model: &M, action: u8, state: usize) -> Option<Placed>
     ensures { MatchOption result (HasNoStep (M.TransitionSystem.meaning model.now) action state) (λ x. FirstStep (M.TransitionSystem.meaning model.now) action state x.place x.target) }
 {
-    for place in 0..model.width() {
-        if let Some(step) = model.step(state, place) {
-            if step.action == action {
-                return Some(Placed {
-                    place,
-                    target: step.target as usize,
-                });
-            }
-        }
-    }
-    None
+    (0..model.width()).find_map(|place| {
+        let step = model.step(state, place)?;
+        (step.action == action).then_some(Placed {
+            place,
+            target: step.target.into(),
+        })
+    })
 }
 
 // Does the action from the start, each time at the lowest place that holds it, until no step of it is left or the turns are made.
@@ -41,10 +37,10 @@ pub fn follow<M: TransitionSystem>(model: &M, action: u8, turns: u16) -> Walk
 {
     let mut state = model.start();
     for made in 0..turns {
-        match first_step(model, action, state) {
-            Some(next) => state = next.target,
-            None => return Walk { turns: made, state },
-        }
+        let Some(next) = first_step(model, action, state) else {
+            return Walk { turns: made, state };
+        };
+        state = next.target;
     }
     Walk { turns, state }
 }

@@ -8,6 +8,7 @@ pub mod hiding;
 pub mod lending;
 pub mod merging;
 pub mod optional;
+pub mod relabelling;
 mod sizes;
 pub mod systems;
 pub mod two_kinds;

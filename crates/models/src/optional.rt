@@ -10,37 +10,22 @@ impl<M: TransitionSystem> TransitionSystem for Option<M> {
     ghost lawful = { option_lawful M.TransitionSystem.lawful };
 
     fn states(&self) -> usize {
-        match self {
-            Some(m) => m.states(),
-            None => 0,
-        }
+        self.as_ref().map_or(0, |m| m.states())
     }
 
     fn start(&self) -> usize {
-        match self {
-            Some(m) => m.start(),
-            None => 0,
-        }
+        self.as_ref().map_or(0, |m| m.start())
     }
 
     fn width(&self) -> usize {
-        match self {
-            Some(m) => m.width(),
-            None => 0,
-        }
+        self.as_ref().map_or(0, |m| m.width())
     }
 
     fn may_end(&self, state: usize) -> bool {
-        match self {
-            Some(m) => m.may_end(state),
-            None => false,
-        }
+        self.as_ref().is_some_and(|m| m.may_end(state))
     }
 
     fn step(&self, state: usize, place: usize) -> Option<Step> {
-        match self {
-            Some(m) => m.step(state, place),
-            None => None,
-        }
+        self.as_ref()?.step(state, place)
     }
 }

@@ -2,13 +2,13 @@
 use crate::wide::Wide;
 use actions::ports::Ports;
 use actions::sets::ActionSet;
+use either::{Either, Left};
 use models::blocking::Blocked;
 use models::counters::Counter;
 use models::following::follow;
 use models::hiding::Hidden;
 use models::merging::Merge;
 use models::systems::TransitionSystem;
-use models::two_kinds::Either;
 
 // The action and the target at a place, or the action 255 where there is no step.
 fn at<M: TransitionSystem>(model: &M, state: usize, place: usize) -> (u8, u16) {
@@ -72,7 +72,7 @@ fn piles_answer(rt: HostRuntime) {
         (0, 3),
         "partners join before anything is blocked"
     );
-    let one: Either<Counter, Wide> = Either::First(Counter::new(2, 1, 2));
+    let one: Either<Counter, Wide> = Left(Counter::new(2, 1, 2));
     assert_eq!(rt; one.states(), 3);
     assert_eq!(rt; follow(&one, 1, 9).turns, 2);
     assert_eq!(rt; follow(&one, 1, 1).state, 1);

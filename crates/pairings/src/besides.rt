@@ -1,7 +1,6 @@
 // A third model put beside a pairing: (s, u) stands with (t, v) when s stands with t and u is v. Beside an empty model nothing
 // stands.
 ghost use Rattle.std.specs.Prelude.{◌≡◌};
-ghost use Rattle.pairings.specs.Besides.{of_beside};
 ghost use Rattle.transitions.specs.Made.{beside};
 
 use crate::standing::Pairing;
@@ -15,7 +14,7 @@ pub struct Beside<'a, P> {
 
 impl<'a, P: Pairing> Beside<'a, P> {
     pub fn new<M: TransitionSystem>(pairing: &'a P, model: &M) -> Self
-        ensures { of_beside P.Pairing.standing result ≡ beside (M.TransitionSystem.meaning model.now).states (P.Pairing.standing pairing.now) }
+        ensures { ⟦<Self as Pairing>⟧.standing result ≡ beside (M.TransitionSystem.meaning model.now).states (P.Pairing.standing pairing.now) }
     {
         Beside {
             pairing,
@@ -25,13 +24,10 @@ impl<'a, P: Pairing> Beside<'a, P> {
 }
 
 impl<'a, P: Pairing> Pairing for Beside<'a, P> {
-    ghost standing = { of_beside P.Pairing.standing };
+    ghost standing = { λ b. beside b.third (P.Pairing.standing b.pairing.now) };
 
     fn stands(&self, s: usize, t: usize) -> bool {
         let n = self.third;
-        if n == 0 {
-            return false;
-        }
-        self.pairing.stands(s / n, t / n) && s % n == t % n
+        n != 0 && self.pairing.stands(s / n, t / n) && s % n == t % n
     }
 }

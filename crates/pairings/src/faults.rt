@@ -2,39 +2,50 @@
 ghost use Rattle.std.specs.Prelude.{◌≡◌};
 ghost use Rattle.pairings.specs.Faults.{number};
 
+use std::error::Error;
+use std::fmt;
+
 #[derive(Clone, Copy, PartialEq, Eq, Debug)]
 pub enum Fault {
     // A state is not below its size.
-    NoState,
+    NoState = 21,
     // The marks or the queue are shorter than the larger size.
-    Short,
+    Short = 22,
     // The side is neither 0 nor 1.
-    NoSide,
+    NoSide = 23,
     // The place holds no step.
-    NoStep,
+    NoStep = 24,
     // The sheet is blank, or a judged model is empty.
-    Blank,
+    Blank = 31,
     // The pair stands already.
-    Stands,
+    Stands = 32,
     // The pair does not stand.
-    Missing,
+    Missing = 33,
     // The models' sizes are not the sheet's.
-    Sizes,
+    Sizes = 34,
 }
 
 impl Fault {
     pub fn number(self) -> u8
         ensures { result ≡ number self }
     {
-        match self {
-            Fault::NoState => 21,
-            Fault::Short => 22,
-            Fault::NoSide => 23,
-            Fault::NoStep => 24,
-            Fault::Blank => 31,
-            Fault::Stands => 32,
-            Fault::Missing => 33,
-            Fault::Sizes => 34,
-        }
+        self as u8
     }
 }
+
+impl fmt::Display for Fault {
+    fn fmt<W: fmt::Write>(&self, f: &mut fmt::Formatter<W>) -> fmt::Result {
+        f.write_str(match self {
+            Fault::NoState => "a state is not below its size",
+            Fault::Short => "the marks or the queue are shorter than the larger size",
+            Fault::NoSide => "the side is neither 0 nor 1",
+            Fault::NoStep => "the place holds no step",
+            Fault::Blank => "the sheet is blank, or a judged model is empty",
+            Fault::Stands => "the pair stands already",
+            Fault::Missing => "the pair does not stand",
+            Fault::Sizes => "the models' sizes are not the sheet's",
+        })
+    }
+}
+
+impl Error for Fault {}

