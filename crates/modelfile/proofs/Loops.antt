@@ -1,5 +1,6 @@
 -- One line further, and the end of the file.
-use Rattle.std.proofs.Common.{◌≡◌, ℕ, suc, ◌+◌, ◌-◌, ◌<◌, ◌≤◌, Bool, true, false, cond, eqb, List, [], ◌∷◌, length, drop, sym, refl, ap, ◌∙◌, add-one, arith}
+use Rattle.std.proofs.Common.{◌≡◌, ℕ, suc, ◌+◌, ◌-◌, ◌<◌, ◌≤◌, Bool, true, false, cond, eqb, List, [], ◌∷◌, length, drop, Some, None, Option, Ok, Err, Result, sym, subst, refl, ap, ◌∙◌, add-one, arith}
+use Rattle.std.specs.Result.{MatchResult, IsErrAnd}
 use Rattle.std.proofs.lemmas.Bool.{le-ltb}
 use Rattle.std.proofs.lemmas.List.{drop-drop}
 use Rattle.processes.specs.declared.terms.Term.{Term}
@@ -7,15 +8,16 @@ use Rattle.tokens.specs.Lines.{Raw, whole, cut, grow, raw_lines}
 use Rattle.modelfile.specs.declared.faults.Fault.{Fault}
 use Rattle.modelfile.specs.declared.faults.Fault.TheVariants.{TooLong, WrongEnd}
 use Rattle.modelfile.specs.Accepted.{Room}
-use Rattle.modelfile.specs.Computed.{read_lines, reading, read, refused_at, ended}
+use Rattle.modelfile.specs.Computed.{read_lines, reading, refused_at, ended}
 use Rattle.modelfile.specs.Tests.{nothing}
 use Rattle.modelfile.specs.Tests as file
 use Rattle.transitions.specs.declared.lines.JoinLine.{JoinLine}
 use Rattle.processes.specs.declared.equations.Equation.{Equation}
-use Rattle.modelfile.specs.declared.entries.Sofar.{Sofar}
+use Rattle.modelfile.specs.declared.filling.Filling.{Filling}
 use Rattle.modelfile.specs.declared.answers.Counts.{Counts}
-use Rattle.modelfile.specs.Promise.{room_is, tables_is}
-use Rattle.modelfile.specs.State.{sofar_is, Counted, Onward, Begins, Filled}
+use Rattle.modelfile.specs.declared.answers.Refusal.{Refusal}
+use Rattle.modelfile.specs.Promise.{room_is}
+use Rattle.modelfile.specs.State.{seen, room_of, IsCounted, ReadsLine, Filled}
 
 goes_on : (i : ℕ) (S : file.Sofar) (n : ℕ) (bs : List ℕ) → 0 < length bs → ended i S n (raw_lines bs) ≡ refused_at WrongEnd (suc i)
 goes_on i S n [] l = absurd (omega arith)
@@ -36,61 +38,70 @@ drop_past xs zs n m l e =
     let k : n + (m - n) ≡ m = omega arith in
     ap (λ j. drop j zs) (sym k) ∙ sym (drop-drop (m - n) n zs) ∙ ap (drop (m - n)) e ∙ drop-drop (m - n) n xs ∙ ap (λ j. drop j xs) k
 
-abbrev room : ℕ → ℕ → ℕ → Room
-room p l t = record { for_lines = p; for_equations = l; for_terms = t }
+-- What a line leads to, told by the answer once its fault is given the line.
+module _ (f f' : Filling) (text : List ℕ) (line : ℕ) {Q : Fault → Refusal → Type 0} (gives : (k : Fault) (e : Refusal) → Q k e → e ≡ record { fault = k; line = line }) where
+  pub refuses : (r : Result (Option ℕ) Fault) (o : Result (Option ℕ) Refusal) → ReadsLine f text f' r → MatchResult r (λ x. o ≡ Ok x) (λ k. IsErrAnd o (Q k)) → (e : Refusal) → o ≡ Err e → ReadsLine f text f' (Err e.fault) × (e.line ≡ line)
+  refuses (Ok x) o h m e g = cc
+  refuses (Err k) (Ok y) h m e g = absurd m
+  refuses (Err k) (Err d) h m e g =
+      let i = gives k d m in
+      let j : k ≡ e.fault = cc in (subst (λ x. ReadsLine f text f' (Err x)) j h, cc)
 
-room_same : (p l t p0 l0 t0 : ℕ) → p ≡ p0 → l ≡ l0 → t ≡ t0 → room p l t ≡ room p0 l0 t0
-room_same p l t p0 l0 t0 e f g = ap (λ x. room x l t) e ∙ ap (λ x. room p0 x t) f ∙ ap (λ x. room p0 l0 x) g
+  pub leads : (r : Result (Option ℕ) Fault) (o : Result (Option ℕ) Refusal) → ReadsLine f text f' r → MatchResult r (λ x. o ≡ Ok x) (λ k. IsErrAnd o (Q k)) → (y : Option ℕ) → o ≡ Ok y → ReadsLine f text f' (Ok y)
+  leads (Ok x) o h m y g = let j : x ≡ y = cc in subst (λ z. ReadsLine f text f' (Ok z)) j h
+  leads (Err k) (Ok x) h m y g = absurd m
+  leads (Err k) (Err d) h m y g = cc
 
-module _ (ls0 : List JoinLine) (es0 : List Equation) (ts0 : List Term) (bytes : List ℕ) where
-  pub short_enough : length bytes ≤ 32768 → reading (room_is ls0 es0 ts0) bytes ≡ read_lines (room_is ls0 es0 ts0) 1 nothing (raw_lines bytes)
-  short_enough h = ap (λ (b : Bool). elim b [ true ↦ refused_at TooLong 0 | false ↦ read_lines (room_is ls0 es0 ts0) 1 nothing (raw_lines bytes) ]) (le-ltb 32768 (length bytes) h)
+-- Where the reading stands: at a line, with the text from there on, and the rows filled so far.
+pub record Stands (ls0 : List JoinLine) (es0 : List Equation) (ts0 : List Term) (bytes : List ℕ) (f : Filling) (line : ℕ) (rest : List ℕ) : Type 0 where
+  pub reads : read_lines (room_is ls0 es0 ts0) line (seen f) (raw_lines rest) ≡ read_lines (room_is ls0 es0 ts0) 1 nothing (raw_lines bytes)
+  pub room_stays : room_of f ≡ room_is ls0 es0 ts0
+  pub counted : IsCounted f
+  pub behind : line + length rest ≤ length bytes + 1
+  pub past_lines : drop f.sofar.lines f.lines.now ≡ drop f.sofar.lines ls0
+  pub past_equations : drop f.sofar.equations f.equations.now ≡ drop f.sofar.equations es0
+  pub past_terms : drop f.sofar.terms f.terms.now ≡ drop f.sofar.terms ts0
 
-  module _ (s : Sofar) (ls : List JoinLine) (es : List Equation) (ts : List Term) (ep : length ls ≡ length ls0) (el : length es ≡ length es0) (et : length ts ≡ length ts0)
-      (line : ℕ) (rest text more : List ℕ)
-      (inv : read_lines (room_is ls0 es0 ts0) line (sofar_is s ls es ts) (raw_lines rest) ≡ read_lines (room_is ls0 es0 ts0) 1 nothing (raw_lines bytes))
-      (cuts : raw_lines rest ≡ whole text ∷ raw_lines more) where
-    here : read_lines (room_is ls es ts) line (sofar_is s ls es ts) (whole text ∷ raw_lines more) ≡ read_lines (room_is ls0 es0 ts0) 1 nothing (raw_lines bytes)
-    here = ap (λ R. read_lines R line (sofar_is s ls es ts) (whole text ∷ raw_lines more)) (room_same _ _ _ _ _ _ ep el et) ∙ ap (read_lines (room_is ls0 es0 ts0) line (sofar_is s ls es ts)) (sym cuts) ∙ inv
+abbrev counts : Filling → ℕ → Counts
+counts f n = record { variables = f.sofar.variables; lines = f.sofar.lines; equations = f.sofar.equations; terms = f.sofar.terms; start = n }
 
-    pub at_refused : (k : Fault) → length bytes ≤ 32768 → ((i : ℕ) (rest : List Raw) → read_lines (room_is ls es ts) i (sofar_is s ls es ts) (whole text ∷ rest) ≡ refused_at k i) → reading (room_is ls0 es0 ts0) bytes ≡ refused_at k line
-    at_refused k h r = short_enough h ∙ sym here ∙ r line (raw_lines more)
+short_enough : (R : Room) (bytes : List ℕ) → length bytes ≤ 32768 → reading R bytes ≡ read_lines R 1 nothing (raw_lines bytes)
+short_enough R bytes few = ap (λ (b : Bool). elim b [ true ↦ refused_at TooLong 0 | false ↦ read_lines R 1 nothing (raw_lines bytes) ]) (le-ltb 32768 (length bytes) few)
 
-    pub at_more : (n : ℕ) (ls' : List JoinLine) (es' : List Equation) (ts' : List Term) → length bytes ≤ 32768 → Begins (room_is ls es ts) text s n ls es ts ls' es' ts' → 0 < length more → reading (room_is ls0 es0 ts0) bytes ≡ refused_at WrongEnd (line + 1)
-    at_more n ls' es' ts' h b l = short_enough h ∙ sym here ∙ b.reads line (raw_lines more) ∙ goes_on line (sofar_is s ls es ts) n more l ∙ ap (refused_at WrongEnd) (sym (add-one line))
+module _ {ls0 : List JoinLine} {es0 : List Equation} {ts0 : List Term} {bytes : List ℕ} (few : length bytes ≤ 32768) where
+  module _ {f : Filling} {line : ℕ} {rest : List ℕ} (h : Stands ls0 es0 ts0 bytes f line rest) (f' : Filling) (text more : List ℕ) (cuts : raw_lines rest ≡ whole text ∷ raw_lines more) where
+    here : read_lines (room_of f) line (seen f) (whole text ∷ raw_lines more) ≡ read_lines (room_is ls0 es0 ts0) 1 nothing (raw_lines bytes)
+    here = ap (λ r. read_lines r line (seen f) (whole text ∷ raw_lines more)) h.room_stays ∙ ap (read_lines (room_is ls0 es0 ts0) line (seen f)) (sym cuts) ∙ h.reads
 
-    pub at_end : (n : ℕ) (ls' : List JoinLine) (es' : List Equation) (ts' : List Term) → length bytes ≤ 32768 → Begins (room_is ls es ts) text s n ls es ts ls' es' ts' → length more ≤ 0
-        → drop s.lines ls ≡ drop s.lines ls0 → drop s.equations es ≡ drop s.equations es0 → drop s.terms ts ≡ drop s.terms ts0
-        → Counted s ls es ts → Filled bytes (record { variables = s.variables; lines = s.lines; equations = s.equations; terms = s.terms; start = n }) ls0 es0 ts0 ls' es' ts'
-    at_end n ls' es' ts' h b l dp dl dt k = record {
-      reads = short_enough h ∙ sym here ∙ b.reads line (raw_lines more) ∙ stops line (sofar_is s ls es ts) n more l
-          ∙ ap (λ x. read (tables_is N x es ts)) (sym b.lines_stay) ∙ ap (λ x. read (tables_is N ls' x ts)) (sym b.equations_stay) ∙ ap (λ x. read (tables_is N ls' es' x)) (sym b.terms_stay);
-      lines_in = omega arith;
-      equations_in = omega arith;
-      terms_in = omega arith;
-      past_lines = ap (drop s.lines) b.lines_stay ∙ dp;
-      past_equations = ap (drop s.equations) b.equations_stay ∙ dl;
-      past_terms = ap (drop s.terms) b.terms_stay ∙ dt;
+    pub at_refused : (k : Fault) → ReadsLine f text f' (Err k) → reading (room_is ls0 es0 ts0) bytes ≡ refused_at k line
+    at_refused k r = short_enough (room_is ls0 es0 ts0) bytes few ∙ sym here ∙ r line (raw_lines more)
+
+    pub at_more : (n : ℕ) → ReadsLine f text f' (Ok (Some n)) → 0 < length more → reading (room_is ls0 es0 ts0) bytes ≡ refused_at WrongEnd (line + 1)
+    at_more n b l = short_enough (room_is ls0 es0 ts0) bytes few ∙ sym here ∙ b.0.reads line (raw_lines more) ∙ goes_on line (seen f) n more l ∙ ap (refused_at WrongEnd) (sym (add-one line))
+
+    pub at_end : (n : ℕ) → ReadsLine f text f' (Ok (Some n)) → length more ≤ 0 → Filled bytes (counts f' n) ls0 es0 ts0 f'.lines.now f'.equations.now f'.terms.now
+    at_end n b l = subst (λ (g : Filling). Filled bytes (counts g n) ls0 es0 ts0 g.lines.now g.equations.now g.terms.now) (sym b.1) (record {
+      reads = short_enough (room_is ls0 es0 ts0) bytes few ∙ sym here ∙ b.0.reads line (raw_lines more) ∙ stops line (seen f) n more l;
+      lines_in = let e = ap (λ (r : Room). r.for_lines) h.room_stays in omega arith;
+      equations_in = let e = ap (λ (r : Room). r.for_equations) h.room_stays in omega arith;
+      terms_in = let e = ap (λ (r : Room). r.for_terms) h.room_stays in omega arith;
+      past_lines = h.past_lines;
+      past_equations = h.past_equations;
+      past_terms = h.past_terms;
+    })
+
+    pub again : ReadsLine f text f' (Ok None) → length more < length rest → Stands ls0 es0 ts0 bytes f' (line + 1) more
+    again o m = record {
+      reads = ap (λ i. read_lines (room_is ls0 es0 ts0) i (seen f') (raw_lines more)) (add-one line)
+          ∙ ap (λ r. read_lines r (suc line) (seen f') (raw_lines more)) (sym h.room_stays) ∙ sym (o.reads line (raw_lines more)) ∙ here;
+      room_stays = o.room_stays ∙ h.room_stays;
+      counted = o.counted;
+      behind = omega (arith, h.behind);
+      past_lines = o.past_lines ∙ drop_past ls0 f.lines.now f.sofar.lines f'.sofar.lines o.more_lines h.past_lines;
+      past_equations = o.past_equations ∙ drop_past es0 f.equations.now f.sofar.equations f'.sofar.equations o.more_equations h.past_equations;
+      past_terms = o.past_terms ∙ drop_past ts0 f.terms.now f.sofar.terms f'.sofar.terms o.more_terms h.past_terms;
     }
-      where
-        N : Counts
-        N = record { variables = s.variables; lines = s.lines; equations = s.equations; terms = s.terms; start = n }
 
-    pub again : (s' : Sofar) (ls' : List JoinLine) (es' : List Equation) (ts' : List Term) → Onward (room_is ls es ts) text s s' ls es ts ls' es' ts'
-        → drop s.lines ls ≡ drop s.lines ls0 → drop s.equations es ≡ drop s.equations es0 → drop s.terms ts ≡ drop s.terms ts0
-        → line + length rest ≤ length bytes + 1 → length more < length rest
-        → (read_lines (room_is ls0 es0 ts0) (line + 1) (sofar_is s' ls' es' ts') (raw_lines more) ≡ read_lines (room_is ls0 es0 ts0) 1 nothing (raw_lines bytes))
-        × Counted s' ls' es' ts'
-        × (line + 1 + length more ≤ length bytes + 1)
-        × (drop s'.lines ls' ≡ drop s'.lines ls0)
-        × (drop s'.equations es' ≡ drop s'.equations es0)
-        × (drop s'.terms ts' ≡ drop s'.terms ts0)
-    again s' ls' es' ts' o dp dl dt b m = (
-      ap (λ i. read_lines (room_is ls0 es0 ts0) i (sofar_is s' ls' es' ts') (raw_lines more)) (add-one line)
-          ∙ ap (λ R. read_lines R (suc line) (sofar_is s' ls' es' ts') (raw_lines more)) (sym (room_same _ _ _ _ _ _ ep el et)) ∙ sym (o.reads line (raw_lines more)) ∙ here,
-      o.counted,
-      omega arith,
-      o.past_lines ∙ drop_past ls0 ls s.lines s'.lines o.more_lines dp,
-      o.past_equations ∙ drop_past es0 es s.equations s'.equations o.more_equations dl,
-      o.past_terms ∙ drop_past ts0 ts s.terms s'.terms o.more_terms dt,
-    )
+-- The same of equal counts and rows.
+pub filled_by : {bytes : List ℕ} {n m : Counts} {ls0 ls ls' : List JoinLine} {es0 es es' : List Equation} {ts0 ts ts' : List Term} → Filled bytes n ls0 es0 ts0 ls es ts → m ≡ n → ls' ≡ ls → es' ≡ es → ts' ≡ ts → Filled bytes m ls0 es0 ts0 ls' es' ts'
+filled_by f a b c d = rw (a, b, c, d) f

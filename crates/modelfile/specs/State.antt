@@ -1,5 +1,5 @@
 -- The code's tables and counts, as what has been read: what the functions inside the reader promise each other.
-use Rattle.std.specs.Prelude.{◌≡◌, ℕ, suc, ◌<◌, ◌≤◌, false, List, ◌∷◌, length, take, drop, Some, None, Ok, Err, Result}
+use Rattle.std.specs.Prelude.{◌≡◌, ℕ, suc, ◌<◌, ◌≤◌, false, List, ◌∷◌, length, take, drop, Some, None, Option, Ok, Err, Result}
 use Rattle.processes.specs.declared.equations.Equation.{Equation}
 use Rattle.processes.specs.declared.terms.Term.{Term}
 use Rattle.tokens.specs.Lines.{Raw, whole}
@@ -12,20 +12,33 @@ use Rattle.transitions.specs.declared.lines.JoinLine.{JoinLine}
 use Rattle.modelfile.specs.declared.answers.Counts.{Counts}
 use Rattle.modelfile.specs.declared.entries.Entry.{Entry}
 use Rattle.modelfile.specs.declared.entries.Entry.TheVariants as entry
-use Rattle.modelfile.specs.declared.entries.Sofar.{Sofar}
-use Rattle.modelfile.specs.declared.entries.Turn.{Turn}
-use Rattle.modelfile.specs.declared.entries.Turn.TheVariants.{Refused, Starts, Reads}
+use Rattle.modelfile.specs.declared.filling.Sofar.{Sofar}
+use Rattle.modelfile.specs.declared.filling.Filling.{Filling}
+use Rattle.modelfile.specs.declared.filling.Section.{Section}
+use Rattle.modelfile.specs.declared.filling.Section.TheVariants as section
 use Rattle.modelfile.specs.Accepted.{Room}
 use Rattle.modelfile.specs.declared.faults.Fault.{Fault}
-use Rattle.modelfile.specs.Computed.{fault_said, judged, faulty, fine, read_lines, ended, refused_at, reading, read}
+use Rattle.modelfile.specs.Computed.{Test, first_fault, fault_said, judged, faulty, fine, read_lines, ended, refused_at, reading, read}
 use Rattle.modelfile.specs.Entries.{entry_of}
 use Rattle.modelfile.specs.Promise.{room_is, tables_is}
 use Rattle.modelfile.specs.Tests.{after, said_before}
 use Rattle.modelfile.specs.Tests as file
 
+-- The turn of a section's lines, and the turn once a line of the section is read: 0 before the first line.
+abbrev pub place_of : Section → ℕ
+place_of section.Variables = 0
+place_of section.Joins = 1
+place_of section.Equations = 2
+place_of section.Terms = 3
+place_of section.Start = 4
+
+abbrev pub turn_after : Option Section → ℕ
+turn_after None = 0
+turn_after (Some s) = suc (place_of s)
+
 -- What stands in the tables.
 abbrev pub sofar_is : Sofar → List JoinLine → List Equation → List Term → file.Sofar
-sofar_is s ls es ts = record { turn = s.turn; variables = s.variables; lines = take s.lines ls; equations = take s.equations es; terms = take s.terms ts }
+sofar_is s ls es ts = record { turn = turn_after s.section; variables = s.variables; lines = take s.lines ls; equations = take s.equations es; terms = take s.terms ts }
 
 pub record Counted (s : Sofar) (ls : List JoinLine) (es : List Equation) (ts : List Term) : Type 0 where
   pub variables_few : s.variables ≤ 256
@@ -33,7 +46,6 @@ pub record Counted (s : Sofar) (ls : List JoinLine) (es : List Equation) (ts : L
   pub equations_in : s.equations ≤ length es
   pub terms_in : s.terms ≤ length ts
   pub terms_few : s.terms ≤ 256
-  pub turn_few : s.turn ≤ 5
   pub once : Once (take s.lines ls)
 
 -- What is said is narrow enough to be stored: what test 5 tells, what test 6 tells, and both.
@@ -109,10 +121,6 @@ pub record Taken (s : Sofar) (d : Said) (e : Entry) (ls : List JoinLine) (es : L
   pub small : Small e
   pub fits : Fits s e ls es ts
 
-abbrev pub SaidJudged : Sofar → Said → List JoinLine → List Equation → List Term → Result Entry Fault → Type 0
-SaidJudged s d ls es ts (Ok e) = Taken s d e ls es ts
-SaidJudged s d ls es ts (Err k) = fault_said (room_is ls es ts) (sofar_is s ls es ts) d ≡ Some k
-
 pub record Adds (s : Sofar) (text : List ℕ) (e : Entry) (ls : List JoinLine) (es : List Equation) (ts : List Term) : Type 0 where
   pub said : Said
   pub is_fine : judged (room_is ls es ts) (sofar_is s ls es ts) (whole text) ≡ fine said
@@ -120,13 +128,10 @@ pub record Adds (s : Sofar) (text : List ℕ) (e : Entry) (ls : List JoinLine) (
   pub small : Small e
   pub fits : Fits s e ls es ts
 
-abbrev pub LineJudged : Sofar → List ℕ → List JoinLine → List Equation → List Term → Result Entry Fault → Type 0
-LineJudged s text ls es ts (Ok e) = Adds s text e ls es ts
-LineJudged s text ls es ts (Err k) = judged (room_is ls es ts) (sofar_is s ls es ts) (whole text) ≡ faulty k
-
 -- The entry is stored behind what stood, and the entries past it are as they were.
 pub record Stored (s : Sofar) (e : Entry) (ls : List JoinLine) (es : List Equation) (ts : List Term) (s' : Sofar) (ls' : List JoinLine) (es' : List Equation) (ts' : List Term) : Type 0 where
   pub is : sofar_is s' ls' es' ts' ≡ after (sofar_is s ls es ts) e
+  pub room_stays : room_is ls' es' ts' ≡ room_is ls es ts
   pub counted : Counted s' ls' es' ts'
   pub past_lines : drop s'.lines ls' ≡ drop s'.lines ls
   pub past_equations : drop s'.equations es' ≡ drop s'.equations es
@@ -138,6 +143,7 @@ pub record Stored (s : Sofar) (e : Entry) (ls : List JoinLine) (es : List Equati
 -- One line further.
 pub record Onward (R : Room) (text : List ℕ) (s s' : Sofar) (ls : List JoinLine) (es : List Equation) (ts : List Term) (ls' : List JoinLine) (es' : List Equation) (ts' : List Term) : Type 0 where
   pub reads : (i : ℕ) (rest : List Raw) → read_lines R i (sofar_is s ls es ts) (whole text ∷ rest) ≡ read_lines R (suc i) (sofar_is s' ls' es' ts') rest
+  pub room_stays : room_is ls' es' ts' ≡ room_is ls es ts
   pub counted : Counted s' ls' es' ts'
   pub past_lines : drop s'.lines ls' ≡ drop s'.lines ls
   pub past_equations : drop s'.equations es' ≡ drop s'.equations es
@@ -147,16 +153,8 @@ pub record Onward (R : Room) (text : List ℕ) (s s' : Sofar) (ls : List JoinLin
   pub more_terms : s.terms ≤ s'.terms
 
 -- The start line.
-pub record Begins (R : Room) (text : List ℕ) (s : Sofar) (n : ℕ) (ls : List JoinLine) (es : List Equation) (ts : List Term) (ls' : List JoinLine) (es' : List Equation) (ts' : List Term) : Type 0 where
+pub record Begins (R : Room) (text : List ℕ) (s : Sofar) (n : ℕ) (ls : List JoinLine) (es : List Equation) (ts : List Term) : Type 0 where
   pub reads : (i : ℕ) (rest : List Raw) → read_lines R i (sofar_is s ls es ts) (whole text ∷ rest) ≡ ended i (sofar_is s ls es ts) n rest
-  pub lines_stay : ls' ≡ ls
-  pub equations_stay : es' ≡ es
-  pub terms_stay : ts' ≡ ts
-
-abbrev pub TurnIs : Room → List ℕ → Sofar → List JoinLine → List Equation → List Term → List JoinLine → List Equation → List Term → Turn → Type 0
-TurnIs R text s ls es ts ls' es' ts' (Refused k) = (i : ℕ) (rest : List Raw) → read_lines R i (sofar_is s ls es ts) (whole text ∷ rest) ≡ refused_at k i
-TurnIs R text s ls es ts ls' es' ts' (Starts n) = Begins R text s n ls es ts ls' es' ts'
-TurnIs R text s ls es ts ls' es' ts' (Reads s') = Onward R text s s' ls es ts ls' es' ts'
 
 -- The tables are those of the file, and the entries past them are as they were.
 pub record Filled (bytes : List ℕ) (n : Counts) (ls : List JoinLine) (es : List Equation) (ts : List Term) (ls' : List JoinLine) (es' : List Equation) (ts' : List Term) : Type 0 where
@@ -167,3 +165,38 @@ pub record Filled (bytes : List ℕ) (n : Counts) (ls : List JoinLine) (es : Lis
   pub past_lines : drop n.lines ls' ≡ drop n.lines ls
   pub past_equations : drop n.equations es' ≡ drop n.equations es
   pub past_terms : drop n.terms ts' ≡ drop n.terms ts
+
+-- The first of the tests that holds is the fault found.
+abbrev pub Finds : List Test → Result (Unit {0}) Fault → Type 0
+Finds ts (Ok u) = first_fault ts ≡ None
+Finds ts (Err k) = first_fault ts ≡ Some k
+
+-- The same of the rows that are handed over, as far as they are filled.
+abbrev pub seen : Filling → file.Sofar
+seen f = sofar_is f.sofar f.lines.now f.equations.now f.terms.now
+
+abbrev pub room_of : Filling → Room
+room_of f = room_is f.lines.now f.equations.now f.terms.now
+
+abbrev pub IsCounted : Filling → Type 0
+IsCounted f = Counted f.sofar f.lines.now f.equations.now f.terms.now
+
+abbrev pub FitsIn : Filling → Entry → Type 0
+FitsIn f e = Fits f.sofar e f.lines.now f.equations.now f.terms.now
+
+abbrev pub SaidJudged : Filling → Said → Result Entry Fault → Type 0
+SaidJudged f d (Ok e) = Taken f.sofar d e f.lines.now f.equations.now f.terms.now
+SaidJudged f d (Err k) = fault_said (room_of f) (seen f) d ≡ Some k
+
+abbrev pub LineJudged : Filling → List ℕ → Result Entry Fault → Type 0
+LineJudged f text (Ok e) = Adds f.sofar text e f.lines.now f.equations.now f.terms.now
+LineJudged f text (Err k) = judged (room_of f) (seen f) (whole text) ≡ faulty k
+
+abbrev pub Stores : Filling → Entry → Filling → Type 0
+Stores f e f' = Stored f.sofar e f.lines.now f.equations.now f.terms.now f'.sofar f'.lines.now f'.equations.now f'.terms.now
+
+-- What one line leads to: a refusal, the start term, or a state to go on from.
+abbrev pub ReadsLine : Filling → List ℕ → Filling → Result (Option ℕ) Fault → Type 0
+ReadsLine f text f' (Err k) = (i : ℕ) (rest : List Raw) → read_lines (room_of f) i (seen f) (whole text ∷ rest) ≡ refused_at k i
+ReadsLine f text f' (Ok (Some n)) = Begins (room_of f) text f.sofar n f.lines.now f.equations.now f.terms.now × (f' ≡ f)
+ReadsLine f text f' (Ok None) = Onward (room_of f) text f.sofar f'.sofar f.lines.now f.equations.now f.terms.now f'.lines.now f'.equations.now f'.terms.now

@@ -1,42 +1,53 @@
-// A model file read into lent tables.
+// A model file read into lent rows.
 ghost use Rattle.std.specs.Prelude.{◌≡◌, Ok, Err};
 ghost use Rattle.modelfile.specs.Computed.{reading as computed, refused_at};
 ghost use Rattle.modelfile.specs.Promise.{IsRead, room_is};
-ghost use Rattle.modelfile.specs.State.{Counted, Filled, TurnIs};
+ghost use Rattle.modelfile.specs.State.{Filled};
 
 use super::answers::{Counts, Refusal};
-use super::entries::{Sofar, Turn};
+use super::entries::Entry;
 use super::faults::Fault;
-use super::judging::judge_line;
-use super::repeats::start_of;
-use super::storing::store;
+use super::filling::{Filling, Sofar};
 use processes::equations::Equation;
 use processes::terms::Term;
 use rows::clear;
-use tokens::cutting::{Piece, next_line};
+use tokens::cutting::next_line;
 use transitions::lines::JoinLine;
 
-// One finished line: judged, and stored unless it names the start term.
-fn read_line(
-    st: Sofar,
-    text: &[u8],
-    lines: &mut [JoinLine],
-    equations: &mut [Equation],
-    terms: &mut [Term],
-) -> Turn
-    requires { Counted st lines.old equations.old terms.old }
-    ensures { TurnIs (room_is lines.old equations.old terms.old) text.now st lines.old equations.old terms.old lines.new equations.new terms.new result }
-{
-    match judge_line(st, text, lines, equations, terms) {
-        Err(k) => Turn::Refused(k),
-        Ok(entry) => match start_of(entry) {
-            Some(n) => Turn::Starts(n),
-            None => Turn::Reads(store(st, entry, lines, equations, terms)),
-        },
+impl Filling<'_> {
+    ghost use Rattle.modelfile.specs.State.{IsCounted, ReadsLine};
+
+    // One finished line: judged, and stored unless it names the start term, which is then the answer.
+    fn read_line(&mut self, text: &[u8]) -> Result<Option<u32>, Fault>
+        requires { IsCounted self.old }
+        ensures reads { ReadsLine self.old text.now self.new result }
+        ensures same_lines { self.new.lines.ghost_name ≡ self.old.lines.ghost_name }
+        ensures same_equations { self.new.equations.ghost_name ≡ self.old.equations.ghost_name }
+        ensures same_terms { self.new.terms.ghost_name ≡ self.old.terms.ghost_name }
+    {
+        match self.judge_line(text)? {
+            Entry::Starts(n) => Ok(Some(n)),
+            entry => {
+                self.store(entry);
+                Ok(None)
+            }
+        }
+    }
+
+    fn counts(&self, start: u32) -> Counts
+        ensures { result ≡ record { variables = self.now.sofar.variables; lines = self.now.sofar.lines; equations = self.now.sofar.equations; terms = self.now.sofar.terms; start = start } }
+    {
+        Counts {
+            variables: self.sofar.variables as usize,
+            lines: self.sofar.lines,
+            equations: self.sofar.equations,
+            terms: self.sofar.terms,
+            start: start as usize,
+        }
     }
 }
 
-// The file into the tables; a refusal may leave anything in them.
+// The file into the rows; a refusal may leave anything in them.
 fn try_read(
     bytes: &[u8],
     lines: &mut [JoinLine],
@@ -54,50 +65,42 @@ fn try_read(
             line: 0,
         });
     }
+    let mut filling = Filling {
+        sofar: Sofar {
+            section: None,
+            variables: 0,
+            lines: 0,
+            equations: 0,
+            terms: 0,
+        },
+        lines,
+        equations,
+        terms,
+    };
     let mut rest = bytes;
     let mut line = 1;
-    let mut st = Sofar {
-        turn: 0,
-        variables: 0,
-        lines: 0,
-        equations: 0,
-        terms: 0,
-    };
-    loop {
-        match next_line(rest) {
-            Piece::Nothing => return Err(Refusal {
+    while let Some((text, more)) = next_line(rest) {
+        let start = filling
+            .read_line(text)
+            .map_err(|fault| Refusal { fault, line })?;
+        if let Some(start) = start {
+            if more.is_empty() {
+                return Ok(filling.counts(start));
+            }
+            return Err(Refusal {
                 fault: Fault::WrongEnd,
-                line,
-            }),
-            Piece::Unfinished => return Err(Refusal {
-                fault: Fault::NoForm,
-                line,
-            }),
-            Piece::Line(text, more) => match read_line(st, text, lines, equations, terms) {
-                Turn::Refused(fault) => return Err(Refusal { fault, line }),
-                Turn::Starts(start) => {
-                    if more.len() > 0 {
-                        return Err(Refusal {
-                            fault: Fault::WrongEnd,
-                            line: line + 1,
-                        });
-                    }
-                    return Ok(Counts {
-                        variables: st.variables as usize,
-                        lines: st.lines,
-                        equations: st.equations,
-                        terms: st.terms,
-                        start: start as usize,
-                    });
-                }
-                Turn::Reads(next) => {
-                    st = next;
-                    rest = more;
-                    line += 1;
-                }
-            },
+                line: line + 1,
+            });
         }
+        rest = more;
+        line += 1;
     }
+    let fault = if rest.is_empty() {
+        Fault::WrongEnd
+    } else {
+        Fault::NoForm
+    };
+    Err(Refusal { fault, line })
 }
 
 // The tables of a file, or the fault of its first faulty line.

@@ -1,11 +1,11 @@
 // Whether an entry stands already, and whether there is room for it.
-ghost use Rattle.std.specs.Prelude.{◌≡◌, ◌≤◌, false, length, take};
+ghost use Rattle.std.specs.Prelude.{◌≡◌, ◌≤◌, length, take};
 ghost use Rattle.processes.specs.Sameness.{same_equation, same_term};
 ghost use Rattle.transitions.specs.Listed.{names};
-ghost use Rattle.modelfile.specs.State.{Counted, sofar_is};
-ghost use Rattle.modelfile.specs.Tests.{any, said_before, full, too_many, start_of};
+ghost use Rattle.modelfile.specs.Tests.{any, said_before, full, too_many};
 
-use super::entries::{Entry, Sofar};
+use super::entries::Entry;
+use super::filling::Filling;
 use processes::equations::Equation;
 use processes::terms::Term;
 use rows::find_same;
@@ -32,57 +32,37 @@ fn is_term_before(terms: &[Term], count: usize, t: Term) -> bool
     find_same(&terms[0..count], &t).is_some()
 }
 
-// Whether an earlier line said the same.
-pub(crate) fn is_said_before(
-    st: Sofar,
-    entry: Entry,
-    lines: &[JoinLine],
-    equations: &[Equation],
-    terms: &[Term],
-) -> bool
-    requires { Counted st lines.now equations.now terms.now }
-    ensures { result ≡ said_before (sofar_is st lines.now equations.now terms.now) entry }
-{
-    match entry {
-        Entry::Joins(l) => is_line_before(lines, st.lines, l),
-        Entry::Does(e) => is_equation_before(equations, st.equations, e),
-        Entry::Gives(t) => is_term_before(terms, st.terms, t),
-        Entry::Variables(_) => false,
-        Entry::Starts(_) => false,
-    }
-}
-
 fn is_full(limit: usize, room: usize, count: usize) -> bool
     ensures { result ≡ full limit room count }
 {
     limit <= count || room <= count
 }
 
-// Whether the entry is one too many, where so many may be stored.
-pub(crate) fn is_too_many(
-    st: Sofar,
-    entry: Entry,
-    lines: usize,
-    equations: usize,
-    terms: usize,
-) -> bool
-    ensures { result ≡ too_many (record { for_lines = lines; for_equations = equations; for_terms = terms }) st.lines st.equations st.terms entry }
-{
-    match entry {
-        Entry::Joins(_) => is_full(32, lines, st.lines),
-        Entry::Does(_) => is_full(1024, equations, st.equations),
-        Entry::Gives(_) => is_full(256, terms, st.terms),
-        Entry::Variables(_) => false,
-        Entry::Starts(_) => false,
-    }
-}
+impl Filling<'_> {
+    ghost use Rattle.modelfile.specs.State.{IsCounted, seen, room_of};
 
-// The start term that the entry names.
-pub(crate) fn start_of(entry: Entry) -> Option<u32>
-    ensures { start_of entry ≡ result }
-{
-    match entry {
-        Entry::Starts(n) => Some(n),
-        _ => None,
+    // Whether an earlier line said the same.
+    pub(crate) fn is_said_before(&self, entry: Entry) -> bool
+        requires { IsCounted self.now }
+        ensures { result ≡ said_before (seen self.now) entry }
+    {
+        match entry {
+            Entry::Joins(l) => is_line_before(self.lines, self.sofar.lines, l),
+            Entry::Does(e) => is_equation_before(self.equations, self.sofar.equations, e),
+            Entry::Gives(t) => is_term_before(self.terms, self.sofar.terms, t),
+            Entry::Variables(_) | Entry::Starts(_) => false,
+        }
+    }
+
+    // Whether the entry is one too many, where so many may be stored.
+    pub(crate) fn is_too_many(&self, entry: Entry) -> bool
+        ensures { result ≡ too_many (room_of self.now) self.now.sofar.lines self.now.sofar.equations self.now.sofar.terms entry }
+    {
+        match entry {
+            Entry::Joins(_) => is_full(32, self.lines.len(), self.sofar.lines),
+            Entry::Does(_) => is_full(1024, self.equations.len(), self.sofar.equations),
+            Entry::Gives(_) => is_full(256, self.terms.len(), self.sofar.terms),
+            Entry::Variables(_) | Entry::Starts(_) => false,
+        }
     }
 }

@@ -1,43 +1,44 @@
-// An entry put behind what stands in the tables.
-ghost use Rattle.modelfile.specs.State.{Counted, Small, Fits, Stored};
+// An entry put behind what stands in the rows.
+ghost use Rattle.std.specs.Prelude.{◌≡◌};
+ghost use Rattle.modelfile.specs.State.{Small};
 
-use super::entries::{Entry, Sofar};
-use processes::equations::Equation;
-use processes::terms::Term;
-use transitions::lines::JoinLine;
+use super::entries::Entry;
+use super::filling::{Filling, Section};
 
-pub(crate) fn store(
-    st: Sofar,
-    entry: Entry,
-    lines: &mut [JoinLine],
-    equations: &mut [Equation],
-    terms: &mut [Term],
-) -> Sofar
-    requires { (Counted st lines.old equations.old terms.old) × ((Small entry) × (Fits st entry lines.old equations.old terms.old)) }
-    ensures { Stored st entry lines.old equations.old terms.old result lines.new equations.new terms.new }
-{
-    let mut next = st;
-    match entry {
-        Entry::Variables(v) => {
-            next.turn = 1;
-            next.variables = v;
+impl Filling<'_> {
+    ghost use Rattle.modelfile.specs.State.{IsCounted, FitsIn, Stores};
+
+    pub(crate) fn store(&mut self, entry: Entry)
+        requires counted { IsCounted self.old }
+        requires small { Small entry }
+        requires fits { FitsIn self.old entry }
+        ensures stores { Stores self.old entry self.new }
+        ensures same_lines { self.new.lines.ghost_name ≡ self.old.lines.ghost_name }
+        ensures same_equations { self.new.equations.ghost_name ≡ self.old.equations.ghost_name }
+        ensures same_terms { self.new.terms.ghost_name ≡ self.old.terms.ghost_name }
+    {
+        let at = self.sofar;
+        match entry {
+            Entry::Variables(v) => {
+                self.sofar.section = Some(Section::Variables);
+                self.sofar.variables = v;
+            }
+            Entry::Joins(l) => {
+                self.lines[at.lines] = l;
+                self.sofar.section = Some(Section::Joins);
+                self.sofar.lines = at.lines + 1;
+            }
+            Entry::Does(e) => {
+                self.equations[at.equations] = e;
+                self.sofar.section = Some(Section::Equations);
+                self.sofar.equations = at.equations + 1;
+            }
+            Entry::Gives(t) => {
+                self.terms[at.terms] = t;
+                self.sofar.section = Some(Section::Terms);
+                self.sofar.terms = at.terms + 1;
+            }
+            Entry::Starts(_) => self.sofar.section = Some(Section::Start),
         }
-        Entry::Joins(l) => {
-            lines[st.lines] = l;
-            next.turn = 2;
-            next.lines = st.lines + 1;
-        }
-        Entry::Does(e) => {
-            equations[st.equations] = e;
-            next.turn = 3;
-            next.equations = st.equations + 1;
-        }
-        Entry::Gives(t) => {
-            terms[st.terms] = t;
-            next.turn = 4;
-            next.terms = st.terms + 1;
-        }
-        Entry::Starts(_n) => next.turn = 5,
     }
-    next
 }

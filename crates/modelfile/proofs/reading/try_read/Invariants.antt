@@ -1,19 +1,14 @@
-use Rattle.std.proofs.Common.{◌≡◌, ◌+◌, ◌≤◌, length, drop}
-use Rattle.tokens.specs.Lines.{raw_lines}
-use Rattle.modelfile.specs.Computed.{read_lines}
-use Rattle.modelfile.specs.Tests.{nothing}
-use Rattle.modelfile.specs.Promise.{room_is}
-use Rattle.modelfile.specs.State.{sofar_is, Counted}
+use Rattle.std.proofs.Common.{◌≡◌, length}
+use Rattle.modelfile.proofs.Loops.{Stands}
 use Rattle.modelfile.proofs.reading.try_read.Given as goal
 
 abbrev pub invariant-loop-text : goal.invariant-loop-text
-invariant-loop-text l =
-    (read_lines (room_is l.initial.lines l.initial.equations l.initial.terms) l.line (sofar_is l.st l.lines l.equations l.terms) (raw_lines l.rest) ≡ read_lines (room_is l.initial.lines l.initial.equations l.initial.terms) 1 nothing (raw_lines l.bytes))
-    × Counted l.st l.lines l.equations l.terms
-    × (l.line + length l.rest ≤ length l.bytes + 1)
-    × (drop l.st.lines l.lines ≡ drop l.st.lines l.initial.lines)
-    × (drop l.st.equations l.equations ≡ drop l.st.equations l.initial.equations)
-    × (drop l.st.terms l.terms ≡ drop l.st.terms l.initial.terms)
+invariant-loop-text l = record {
+  stands : Stands l.fn.lines l.fn.equations l.fn.terms l.bytes l.filling l.line l.rest;
+  same_lines : l.filling.lines.ghost_name ≡ l.initial.filling.lines.ghost_name;
+  same_equations : l.filling.equations.ghost_name ≡ l.initial.filling.equations.ghost_name;
+  same_terms : l.filling.terms.ghost_name ≡ l.initial.filling.terms.ghost_name;
+}
 
 abbrev pub decreases-loop-text : goal.decreases-loop-text
 decreases-loop-text l = length l.rest
