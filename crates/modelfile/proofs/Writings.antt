@@ -102,10 +102,6 @@ hex_digits_on (suc k) v q e =
     step : ℕ → Option ℕ → List ℕ → Option ℕ
     step v o r = elim o [ None ↦ None | Some d ↦ hex_on (16 * v + d) r ]
 
-length_hex : (k q : ℕ) → length (hex_digits k q) ≡ k
-length_hex zero q = refl
-length_hex (suc k) q = ap suc (length_hex k q)
-
 set_hex : (q : ℕ) → q < 2 ^ 64 → set (hex_digits 16 q) ≡ Some q
 set_hex q l = hex_digits_on 16 0 q (let e : q / 2 ^ 64 ≡ 0 = omega arith in e)
 

@@ -6,7 +6,7 @@ ghost use Rattle.modelfile.specs.State.{turn_after, Finds, Narrow};
 
 use super::entries::{Entry, entry_of};
 use super::faults::Fault;
-use super::filling::{Filling, Sofar};
+use super::filling::{Filling, Section};
 use super::limits::{has_wrong_number, is_out_of_turn, is_over_limit, section_of, uses_silent};
 use acceptance::rings::has_no_ring;
 use actions::grouping::is_associative;
@@ -17,19 +17,19 @@ use tokens::values::said_of;
 use transitions::lines::JoinLine;
 
 // The first fault of the numbers that are said: 4 to 7.
-fn check_said(sofar: Sofar, said: Said) -> Result<(), Fault>
-    requires variables_few { sofar.variables ≤ 256 }
-    requires terms_few { sofar.terms ≤ 256 }
-    ensures finds { Finds (early_tests (turn_after sofar.section) sofar.variables sofar.terms said) result }
+fn check_said(last: Option<Section>, variables: u32, terms: usize, said: Said) -> Result<(), Fault>
+    requires variables_few { variables ≤ 256 }
+    requires terms_few { terms ≤ 256 }
+    ensures finds { Finds (early_tests (turn_after last) variables terms said) result }
     ensures narrow { OnOk result (Narrow said) }
 {
-    if is_out_of_turn(sofar.section, section_of(said)) {
+    if is_out_of_turn(last, section_of(said)) {
         return Err(Fault::OutOfTurn);
     }
-    if is_over_limit(sofar.variables, said) {
+    if is_over_limit(variables, said) {
         return Err(Fault::OverLimit);
     }
-    if has_wrong_number(sofar.terms, said) {
+    if has_wrong_number(terms, said) {
         return Err(Fault::WrongNumber);
     }
     if uses_silent(said) {
@@ -53,13 +53,12 @@ fn check_start(lines: &[JoinLine], equations: &[Equation]) -> Result<(), Fault>
 }
 
 impl Filling<'_> {
-    ghost use Rattle.modelfile.specs.State.{IsCounted, seen, room_of, FitsIn, SaidJudged, LineJudged};
+    ghost use Rattle.modelfile.specs.State.{seen, room_of, Fits, SaidJudged, LineJudged};
 
     // The first fault of the entry: 8 to 11.
     fn check_entry(&self, entry: Entry) -> Result<(), Fault>
-        requires { IsCounted self.now }
         ensures finds { Finds (late_tests (room_of self.now) (seen self.now) entry) result }
-        ensures fits { OnOk result (FitsIn self.now entry) }
+        ensures fits { OnOk result (Fits self.now entry) }
     {
         if self.is_said_before(entry) {
             return Err(Fault::SaidBefore);
@@ -69,8 +68,8 @@ impl Filling<'_> {
         }
         match entry {
             Entry::Starts(_) => check_start(
-                &self.lines[..self.sofar.lines],
-                &self.equations[..self.sofar.equations],
+                &self.lines[..self.line_count],
+                &self.equations[..self.equation_count],
             ),
             _ => Ok(()),
         }
@@ -78,10 +77,9 @@ impl Filling<'_> {
 
     // The entry that is said, or the first fault of what is said.
     fn judge_said(&self, said: Said) -> Result<Entry, Fault>
-        requires { IsCounted self.now }
         ensures { SaidJudged self.now said result }
     {
-        check_said(self.sofar, said)?;
+        check_said(self.section, self.variables, self.term_count, said)?;
         let entry = entry_of(said);
         self.check_entry(entry)?;
         Ok(entry)
@@ -89,7 +87,6 @@ impl Filling<'_> {
 
     // The entry that a finished line adds, or the first fault of the line.
     pub(crate) fn judge_line(&self, text: &[u8]) -> Result<Entry, Fault>
-        requires { IsCounted self.now }
         ensures { LineJudged self.now text.now result }
     {
         let form = form_of(text).ok_or(Fault::NoForm)?;

@@ -32,6 +32,7 @@ fn is_term_before(terms: &[Term], count: usize, t: Term) -> bool
     find_same(&terms[0..count], &t).is_some()
 }
 
+// Whether the limit or the row leaves no room behind so many entries.
 fn is_full(limit: usize, room: usize, count: usize) -> bool
     ensures { result ≡ full limit room count }
 {
@@ -39,29 +40,28 @@ fn is_full(limit: usize, room: usize, count: usize) -> bool
 }
 
 impl Filling<'_> {
-    ghost use Rattle.modelfile.specs.State.{IsCounted, seen, room_of};
+    ghost use Rattle.modelfile.specs.State.{seen, room_of};
 
     // Whether an earlier line said the same.
     pub(crate) fn is_said_before(&self, entry: Entry) -> bool
-        requires { IsCounted self.now }
         ensures { result ≡ said_before (seen self.now) entry }
     {
         match entry {
-            Entry::Joins(l) => is_line_before(self.lines, self.sofar.lines, l),
-            Entry::Does(e) => is_equation_before(self.equations, self.sofar.equations, e),
-            Entry::Gives(t) => is_term_before(self.terms, self.sofar.terms, t),
+            Entry::Joins(l) => is_line_before(self.lines, self.line_count, l),
+            Entry::Does(e) => is_equation_before(self.equations, self.equation_count, e),
+            Entry::Gives(t) => is_term_before(self.terms, self.term_count, t),
             Entry::Variables(_) | Entry::Starts(_) => false,
         }
     }
 
     // Whether the entry is one too many, where so many may be stored.
     pub(crate) fn is_too_many(&self, entry: Entry) -> bool
-        ensures { result ≡ too_many (room_of self.now) self.now.sofar.lines self.now.sofar.equations self.now.sofar.terms entry }
+        ensures { result ≡ too_many (room_of self.now) self.now.line_count self.now.equation_count self.now.term_count entry }
     {
         match entry {
-            Entry::Joins(_) => is_full(32, self.lines.len(), self.sofar.lines),
-            Entry::Does(_) => is_full(1024, self.equations.len(), self.sofar.equations),
-            Entry::Gives(_) => is_full(256, self.terms.len(), self.sofar.terms),
+            Entry::Joins(_) => is_full(32, self.lines.len(), self.line_count),
+            Entry::Does(_) => is_full(1024, self.equations.len(), self.equation_count),
+            Entry::Gives(_) => is_full(256, self.terms.len(), self.term_count),
             Entry::Variables(_) | Entry::Starts(_) => false,
         }
     }
