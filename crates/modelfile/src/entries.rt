@@ -9,6 +9,7 @@ use tokens::said::Said;
 use tokens::token::Kind;
 use transitions::lines::JoinLine;
 
+// An entry of one of the tables, the count of variables, or the start term.
 #[derive(Clone, Copy)]
 pub enum Entry {
     Variables(u32),

@@ -7,6 +7,7 @@ use super::filling::{Filling, Section};
 impl Filling<'_> {
     ghost use Rattle.modelfile.specs.State.{Fits, Stores};
 
+    // The entry goes behind the last one of its row.
     pub(crate) fn store(&mut self, entry: Entry)
         requires small { Small entry }
         requires fits { Fits self.old entry }

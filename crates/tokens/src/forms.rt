@@ -25,7 +25,7 @@ fn term_form(rest: &[u8]) -> Option<Form<'_>>
 {
     let (n, rest) = next_field(rest)?;
     let (sign, p, q) = three_fields(rest)?;
-    let kind = Kind::try_from(sign).ok()?;
+    let kind = Kind::try_from(Token::Sign(sign)).ok()?;
     Some(Form::Gives(
         Token::Number(n),
         kind,

@@ -1,6 +1,7 @@
 // What a line is made of: its letter, and its fields as marked parts of the text.
 ghost use Rattle.std.specs.Prelude.{MatchResult, ◌≡◌, Some, None};
-ghost use Rattle.tokens.specs.Forms.{letter_in, kind_in};
+ghost use Rattle.tokens.specs.Forms.{letter_in};
+ghost use Rattle.tokens.specs.Marks.{kind_told};
 
 use std::error::Error;
 use std::fmt;
@@ -80,23 +81,23 @@ impl TryFrom<&[u8]> for Letter {
     }
 }
 
-impl TryFrom<&[u8]> for Kind {
+impl TryFrom<Token<'_>> for Kind {
     type Error = Unknown;
 
-    ghost try_from_gives = { λ field r. MatchResult r (λ kind. kind_in field.now ≡ Some kind) (λ _. kind_in field.now ≡ None) };
+    ghost try_from_gives = { λ sign r. MatchResult r (λ kind. kind_told sign ≡ Some kind) (λ _. kind_told sign ≡ None) };
 
-    fn try_from(field: &[u8]) -> Result<Kind, Unknown> {
-        match field {
-            [b'a'] => Ok(Kind::Action),
-            [b'd'] => Ok(Kind::Deadlock),
-            [b'v'] => Ok(Kind::Variable),
-            [b'+'] => Ok(Kind::Choice),
-            [b'.'] => Ok(Kind::Sequence),
-            [b'm'] => Ok(Kind::Merge),
-            [b'l'] => Ok(Kind::LeftMerge),
-            [b'j'] => Ok(Kind::CommMerge),
-            [b'b'] => Ok(Kind::Block),
-            [b'h'] => Ok(Kind::Hide),
+    fn try_from(sign: Token<'_>) -> Result<Kind, Unknown> {
+        match sign {
+            Token::Sign([b'a']) => Ok(Kind::Action),
+            Token::Sign([b'd']) => Ok(Kind::Deadlock),
+            Token::Sign([b'v']) => Ok(Kind::Variable),
+            Token::Sign([b'+']) => Ok(Kind::Choice),
+            Token::Sign([b'.']) => Ok(Kind::Sequence),
+            Token::Sign([b'm']) => Ok(Kind::Merge),
+            Token::Sign([b'l']) => Ok(Kind::LeftMerge),
+            Token::Sign([b'j']) => Ok(Kind::CommMerge),
+            Token::Sign([b'b']) => Ok(Kind::Block),
+            Token::Sign([b'h']) => Ok(Kind::Hide),
             _ => Err(Unknown),
         }
     }
