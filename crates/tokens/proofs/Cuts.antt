@@ -14,7 +14,7 @@ pub cut_at : (s i : ℕ) (xs : List ℕ) → position (λ b. eqb b s) xs ≡ Som
 cut_at s i xs e =
     let h = position-Some (λ b. eqb b s) xs i 0 e in
     let l : i < length xs = h.0 in
-    sym (take-append-drop i xs) ∙ ap (λ z. take i xs ++ z) (rw (drop-cons xs i 0, eqb-true (get_or xs i 0) s h.1, ← add-one) refl)
+    sym (take-append-drop i xs) ∙ ap (λ z. take i xs ++ z) (rw (drop-cons xs i 0, eqb-true (get_or xs i 0) s h.1, ← add-one i) refl)
 
 pub lacks_before : (s i : ℕ) (xs : List ℕ) → position (λ b. eqb b s) xs ≡ Some i → All (λ b. eqb b s ≡ false) (take i xs)
 lacks_before s i xs e k d l =
