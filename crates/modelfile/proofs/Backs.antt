@@ -1,5 +1,8 @@
 -- The one text of accepted tables is read.
 use Rattle.std.proofs.Common.{◌≡◌, ℕ, zero, suc, ◌+◌, ◌%◌, ◌<◌, ◌≤◌, true, false, cond, not, List, [], ◌∷◌, ◌++◌, length, get_or, Some, None, sym, refl, ap, ◌∙◌, subst, inl, append_assoc, append-nil, add-one, arith, length-append, le-ltb, eq-eqb, ne_eqb}
+use Rattle.std.proofs.lemmas.Bool.{false_from_ne_true}
+use Rattle.std.proofs.Math.Seq.{get_or-append_seam}
+use Rattle.std.proofs.Math.ListN.{get_or-append}
 use borrow.Author.Tests.{lt-leb}
 use Rattle.acceptance.proofs.Circling.{ring_found}
 use Rattle.acceptance.specs.Accepted.{EquationFits, Earlier, TermFits}
@@ -25,7 +28,7 @@ use Rattle.modelfile.specs.Tests.{Sofar, nothing, turn_of, out_of_turn, over_lim
 use Rattle.modelfile.proofs.Finding.{any_none as none_at}
 use Rattle.modelfile.proofs.Goods.{AllFalse, all_on}
 use Rattle.modelfile.proofs.Groups.{or_no, associative_no}
-use Rattle.modelfile.proofs.Onces.{at_left, at_end, within, fresh_at, not_true}
+use Rattle.modelfile.proofs.Onces.{within, fresh_at}
 use Rattle.modelfile.proofs.Spelled.{tables_of}
 use Rattle.modelfile.proofs.Writings.{Told, told_end, told_next, read_told, NumbersFit}
 
@@ -126,7 +129,7 @@ module _ (R : Room) where
 
 -- the entry at its place, between two parts
 at_mid : {A : Type 0} (P : ℕ → A → Type 0) (xs : List A) (x : A) (ys zs : List A) (d : A) → xs ++ (x ∷ ys) ≡ zs → ((k : ℕ) → k < length zs → P k (get_or zs k d)) → P (length xs) x
-at_mid P xs x ys zs d e h = subst (P (length xs)) (ap (λ z. get_or z (length xs) d) (sym e) ∙ at_end xs x ys d) (h (length xs) (within xs x ys zs e))
+at_mid P xs x ys zs d e h = subst (P (length xs)) (ap (λ z. get_or z (length xs) d) (sym e) ∙ get_or-append_seam xs x ys d) (h (length xs) (within xs x ys zs e))
 
 module _ (R : Room) (t : Tables) (ok : Accepted R t) where
   abbrev ToldAll : Sofar → List Said → Type 0
@@ -139,7 +142,7 @@ module _ (R : Room) (t : Tables) (ok : Accepted R t) where
       let le : length S.terms ≡ length t.terms = ap length u in
       let few = ok.tables.terms_few in
       let grouped : not_associative S.lines ≡ false = ap not_associative ep ∙ associative_no t.lines ok.tables.lines_fit.once ok.tables.lines_fit.associative in
-      let ringless : silent_ring S.equations ≡ false = ap silent_ring el ∙ not_true (silent_ring t.equations) (λ h. let r = ring_found t.equations h in ok.tables.no_ring r.0 r.1) in
+      let ringless : silent_ring S.equations ≡ false = ap silent_ring el ∙ false_from_ne_true (silent_ring t.equations) (λ h. let r = ring_found t.equations h in ok.tables.no_ring r.0 r.1) in
       (S, told_end (no_fault R S (Starts t.start) (turn_ok S.turn 4 l (omega arith) (omega arith)) refl (later_no (suc (length S.terms)) t.start (st.0, omega arith)) refl refl refl grouped ringless) (omega arith), same u)
     where
       same : S.terms ≡ t.terms → tables_of R S t.start ≡ t
@@ -196,11 +199,11 @@ module _ (R : Room) (t : Tables) (ok : Accepted R t) where
       )
     where
       here : line_at t.lines (length S.lines) ≡ x
-      here = ap (λ z. line_at z (length S.lines)) (sym ep) ∙ at_end S.lines x ls _
+      here = ap (λ z. line_at z (length S.lines)) (sym ep) ∙ get_or-append_seam S.lines x ls _
 
       fresh : any (λ k. names k x.a x.b) S.lines ≡ false
-      fresh = none_at (λ (k : JoinLine). names k x.a x.b) S.lines _ (λ j b. not_true _ (λ h.
-          let left : line_at t.lines j ≡ line_at S.lines j = ap (λ z. line_at z j) (sym ep) ∙ at_left S.lines (x ∷ ls) j _ b in
+      fresh = none_at (λ (k : JoinLine). names k x.a x.b) S.lines _ (λ j b. false_from_ne_true _ (λ h.
+          let left : line_at t.lines j ≡ line_at S.lines j = ap (λ z. line_at z j) (sym ep) ∙ get_or-append S.lines (x ∷ ls) _ j b in
           ok.tables.lines_fit.once j (length S.lines) x.a x.b b (within S.lines x ls t.lines ep)
           (subst (λ (k : JoinLine). Names k x.a x.b) (sym left) ((named (line_at S.lines j) x.a x.b).0 h))
           (subst (λ (k : JoinLine). Names k x.a x.b) (sym here) (inl (refl, refl)))))

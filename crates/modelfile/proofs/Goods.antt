@@ -1,5 +1,6 @@
 -- What has been read without a fault fits.
 use Rattle.std.proofs.Common.{◌≡◌, ℕ, zero, suc, ◌+◌, ◌%◌, ◌<◌, ◌≤◌, Bool, true, false, cond, not, ◌||◌, eqb, ltb, leb, List, [], ◌∷◌, ◌++◌, length, Some, None, sym, refl, ap, ◌∙◌, subst, ap₂, arith, length-append, ltb-false, eqb-true, leb-false}
+use Rattle.std.proofs.lemmas.Bool.{not-false}
 use borrow.Author.Tests.{eqb-false}
 use Rattle.acceptance.specs.Accepted.{EquationFits, equation_at, Earlier, TermFits, entry_at}
 use Rattle.acceptance.specs.Walks.{silent_ring}
@@ -21,7 +22,7 @@ use Rattle.modelfile.specs.Computed.{Test, test, first_fault, tests_of, fault_sa
 use Rattle.modelfile.specs.Entries.{entry_of, term_of}
 use Rattle.modelfile.specs.Tables.{line_says, equation_says, term_says, lines_before, equations_before, terms_before}
 use Rattle.modelfile.specs.Tests.{Sofar, turn_of, after, out_of_turn, over_limit, not_before, operand_not_before, wrong_number, odd_set, silent_used, any, said_before, full, too_many, start_of}
-use Rattle.modelfile.proofs.Groups.{no_way, or_false, not_false}
+use Rattle.modelfile.proofs.Groups.{no_way, or_false}
 use Rattle.modelfile.proofs.Onces.{place_snoc, no_place, differ_snoc, once_snoc}
 use Rattle.modelfile.proofs.Spelled.{FieldsFit, SetFits}
 
@@ -81,7 +82,7 @@ becomes_below : (v x a y : ℕ) → over_limit v (Becomes x a y) ≡ false → E
 becomes_below v x a y h = let w = or_false (leb v x || ltb 63 a) (leb v y) h in let u = or_false (leb v x) (ltb 63 a) w.0 in let l : a ≤ 63 = ltb-false _ _ u.1 in ((leb-false _ _ u.0, leb-false _ _ w.1), omega arith)
 
 is_zero : (q : ℕ) → not (eqb q 0) ≡ false → q ≡ 0
-is_zero q h = eqb-true q 0 (not_false (eqb q 0) h)
+is_zero q h = eqb-true q 0 (not-false (eqb q 0) h)
 
 pub earlier : (n p : ℕ) → not_before n p ≡ false → Earlier n p
 earlier n p h = let w = or_false (eqb p 0) (leb n p) h in let a : p ≡ 0 → ⊥ = eqb-false p 0 w.0 in let b : p < n = leb-false _ _ w.1 in (omega arith, b)
@@ -153,7 +154,7 @@ module _ (R : Room) where
   said_at (suc k) S = Variables S.variables ∷ lines_before S.lines (equations_before S.equations (terms_before 1 S.terms []))
 
   pub turn_is : (k t : ℕ) → 0 < t → out_of_turn k t ≡ false → (0 < k) × (k ≤ suc t)
-  turn_is zero t p h = let z : eqb t 0 ≡ true = not_false (eqb t 0) h in let u : t ≡ 0 = eqb-true t 0 z in absurd (omega arith)
+  turn_is zero t p h = let z : eqb t 0 ≡ true = not-false (eqb t 0) h in let u : t ≡ 0 = eqb-true t 0 z in absurd (omega arith)
   turn_is (suc k) t p h = let w = or_false (eqb t 0) (ltb t k) h in let v : k ≤ t = ltb-false t k w.1 in (omega arith, omega arith)
 
   first_turn : (k : ℕ) → out_of_turn k 0 ≡ false → k ≡ 0
@@ -226,7 +227,7 @@ module _ (R : Room) where
   good_after S (Ends x a) g p n f = good_equation S (equation.Ends x a) g p.in_turn (ends_below S.variables x a p.within_limit) p.not_said p.not_many
   good_after S (Gives m k i j) g p n f =
       let w = or_false (not (eqb m (suc (length S.terms)))) (operand_not_before m k i j) p.right_number in
-      let u : m ≡ suc (length S.terms) = eqb-true m (suc (length S.terms)) (not_false (eqb m (suc (length S.terms))) w.0) in
+      let u : m ≡ suc (length S.terms) = eqb-true m (suc (length S.terms)) (not-false (eqb m (suc (length S.terms))) w.0) in
       let e : m ≡ length S.terms + 1 = omega arith in
       let t : Term = term_of k i j in
       record {
@@ -316,5 +317,5 @@ module _ (R : Room) where
   said_after S (Gives m k i j) g p n =
       let t = turn_is S.turn 3 (omega arith) p.in_turn in
       let w = or_false (not (eqb m (suc (length S.terms)))) (operand_not_before m k i j) p.right_number in
-      later_turn S (Gives m k i j) t.0 _ (said_term S m (term_of k i j) (eqb-true m (suc (length S.terms)) (not_false (eqb m (suc (length S.terms))) w.0)) ∙ ap (λ z. all_before S.lines S.equations S.terms [] ++ (z ∷ [])) (says_again S.variables m k i j p.within_limit))
+      later_turn S (Gives m k i j) t.0 _ (said_term S m (term_of k i j) (eqb-true m (suc (length S.terms)) (not-false (eqb m (suc (length S.terms))) w.0)) ∙ ap (λ z. all_before S.lines S.equations S.terms [] ++ (z ∷ [])) (says_again S.variables m k i j p.within_limit))
   said_after S (Starts m) g p n = let z : ◌≡◌ {A = ℕ} 0 1 = cc in absurd (omega arith)

@@ -1,5 +1,6 @@
 -- Asked of the actions that lines name, the question of grouping tells of all actions.
 use Rattle.std.proofs.Common.{◌≡◌, ℕ, zero, suc, ◌<◌, Bool, true, false, not, ◌||◌, List, [], ◌∷◌, length, Some, None, Decides, Option, sym, refl, ap, ◌∙◌, subst, inl, inr, arith, eq-eqb, eqb-true}
+use Rattle.std.proofs.lemmas.Bool.{not-false}
 use mathlib.Core.List.{Memᴰ}
 use Rattle.tokens.specs.Forms.{and_then}
 use Rattle.transitions.specs.Listed.{line_at, Names, Said, Once, Associative, listed_joins}
@@ -17,10 +18,6 @@ or_false false b h = (refl, h)
 
 pub or_no : {a b : Bool} → a ≡ false → b ≡ false → a || b ≡ false
 or_no {a} {b} e f = ap (λ x. x || b) e ∙ f
-
-pub not_false : (a : Bool) → not a ≡ false → a ≡ true
-not_false true h = refl
-not_false false h = no_way h
 
 pub then_some : {A B : Type 0} (o : Option A) (f : A → Option B) (y : B) → and_then o f ≡ Some y → (x : A) × (o ≡ Some x) × (f x ≡ Some y)
 then_some None f y e = let z : ◌≡◌ {A = ℕ} 0 1 = cc in absurd (omega arith)
@@ -78,7 +75,7 @@ module _ (ls : List JoinLine) (once : Once ls) where
   module _ (h : not_associative ls ≡ false) where
     inside : (a b c : ℕ) → Memᴰ a (partners ls) → Memᴰ b (partners ls) → Memᴰ c (partners ls) → left_first ls a b c ≡ right_first ls a b c
     inside a b c ma mb mc =
-        same_is _ _ (not_false _
+        same_is _ _ (not-false _
         (any_mem (λ c. not (same_answer (left_first ls a b c) (right_first ls a b c))) mc
         (any_mem (λ b. any (λ c. not (same_answer (left_first ls a b c) (right_first ls a b c))) (partners ls)) mb
         (any_mem (λ a. any (λ b. any (λ c. not (same_answer (left_first ls a b c) (right_first ls a b c))) (partners ls)) (partners ls)) ma h))))

@@ -2,7 +2,6 @@ pub mod Finding
 pub mod Groups
 pub mod Firsts
 pub mod Onces
-pub mod Stores
 pub mod Loops
 pub mod Spelled
 pub mod Writings

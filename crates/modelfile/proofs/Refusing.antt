@@ -1,5 +1,6 @@
 -- A refusal is that of the first faulty line, with the smallest number that applies to it.
 use Rattle.std.proofs.Common.{◌≡◌, ℕ, suc, ◌≤◌, Bool, true, false, cond, ltb, ◌⊎◌, List, [], ◌∷◌, length, Some, None, Option, sym, refl, ap, ◌∙◌, subst, subst₂, inl, inr, arith, ltb-false, ltb-true}
+use Rattle.std.proofs.lemmas.Bool.{false_from_ne_true}
 use mathlib.Core.List.Memᴰ
 use mathlib.Core.List.{Memᴰ}
 use Rattle.tokens.specs.Forms.{Shape, shape, values}
@@ -19,7 +20,7 @@ use Rattle.modelfile.specs.Faults.{number_of}
 use Rattle.modelfile.specs.Refusals.{NamesStart, Wrong, Applies, no_form, no_value, wrong, Least, Says, Upto, here, on, Refused, too_long, at_line, no_start, goes_on}
 use Rattle.modelfile.specs.Tests.{Sofar, nothing, after, start_of}
 use Rattle.modelfile.proofs.Groups.{no_way, associative_from, associative_no}
-use Rattle.modelfile.proofs.Onces.{once_snoc, not_true}
+use Rattle.modelfile.proofs.Onces.{once_snoc}
 
 -- no test of the list has a smaller number than k
 abbrev From : Fault → List Test → Type 0
@@ -165,7 +166,7 @@ module _ (R : Room) where
   -- no pair is named twice behind a faultless line
   once_after : (S : Sofar) (l : Raw) (s : Said) → Says R S l s → Once S.lines → Once (after S (entry_of s)).lines
   once_after S l (Variables v) w once = once
-  once_after S l (Joins a b r) w once = once_snoc S.lines (record { a = a; b = b; joint = r }) once (not_true _ (λ h. w.faultless SaidBefore (wrong w.is_form w.is_said h)))
+  once_after S l (Joins a b r) w once = once_snoc S.lines (record { a = a; b = b; joint = r }) once (false_from_ne_true _ (λ h. w.faultless SaidBefore (wrong w.is_form w.is_said h)))
   once_after S l (Becomes x a y) w once = once
   once_after S l (Ends x a) w once = once
   once_after S l (Gives n k p q) w once = once

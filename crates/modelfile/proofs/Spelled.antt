@@ -1,10 +1,11 @@
 -- What is read is the one text of its tables.
 use Rattle.std.proofs.Common.{◌≡◌, ℕ, suc, ◌+◌, ◌-◌, ◌*◌, ◌/◌, ◌%◌, ◌^◌, ◌<◌, ◌≤◌, Bool, true, false, cond, not, ◌&&◌, eqb, ltb, leb, List, [], ◌∷◌, ◌++◌, length, get_or, Some, None, decimal, Option, sym, refl, ap, ◌∙◌, subst, ap₂, append_assoc, pow-suc, arith, rules, le-ltb, lt-ltb, eqb-true, leb-true}
 use native.Mathlib.Nat.{div-div-eq-div-mul}
+use Rattle.std.specs.List.{onto_first}
 use Rattle.std.proofs.lemmas.Str.Parse.{IsNumeralModel, numerals_by_fold, digits_value_short}
 use Rattle.std.proofs.lemmas.Fmt.{decimal-digits_value}
 use Rattle.tokens.specs.Forms.{Shape, variables, joins, becomes, ends, gives, starts, among, letter_byte, sign_byte, letter_in, kind_in, shape_by, shape, second, values}
-use Rattle.tokens.specs.Lines.{Raw, whole, cut, grow, raw_lines, on_first, fields}
+use Rattle.tokens.specs.Lines.{Raw, whole, cut, grow, raw_lines, fields}
 use Rattle.tokens.specs.Numbers.{is_digit, all_digits, value_on, plain, number, hex_value, hex_on, set}
 use Rattle.tokens.specs.declared.said.Said.{Said}
 use Rattle.tokens.specs.declared.said.Said.TheVariants.{Variables, Joins, Becomes, Ends, Gives, Starts}
@@ -48,7 +49,7 @@ tail_fields : (l : List ℕ) → tail (fields l) ≡ 44 ∷ l
 tail_fields [] = refl
 tail_fields (b ∷ bs) = go (eqb b 44) refl (fields bs) (tail_fields bs)
   where
-    go : (t : Bool) → eqb b 44 ≡ t → (fs : List (List ℕ)) → tail fs ≡ 44 ∷ bs → tail (cond t ([] ∷ fs) (on_first b fs)) ≡ 44 ∷ b ∷ bs
+    go : (t : Bool) → eqb b 44 ≡ t → (fs : List (List ℕ)) → tail fs ≡ 44 ∷ bs → tail (cond t ([] ∷ fs) (onto_first b fs)) ≡ 44 ∷ b ∷ bs
     go true g fs ih = let e : b ≡ 44 = eqb-true b 44 g in ap (λ r. 44 ∷ r) (ih ∙ ap (λ c. c ∷ bs) (sym e))
     go false g [] ih = let z : ◌≡◌ {A = ℕ} 0 1 = cc in absurd (omega arith)
     go false g (f ∷ fs) ih = let e : f ++ tail fs ≡ bs = cc in ap (λ r. 44 ∷ b ∷ r) e

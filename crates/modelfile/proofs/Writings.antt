@@ -2,9 +2,11 @@
 use Rattle.std.proofs.Common.{◌≡◌, ℕ, zero, suc, ◌+◌, ◌-◌, ◌*◌, ◌/◌, ◌%◌, ◌^◌, ◌<◌, ◌≤◌, Bool, true, false, cond, not, ◌&&◌, eqb, ltb, leb, List, [], ◌∷◌, ◌++◌, length, get_or, Some, None, decimal, Option, sym, refl, ap, ◌∙◌, subst, ap₂, append_assoc, pow-suc, arith, ltb-false, ltb-true, ne_eqb, le-leb, leb-true}
 use native.Mathlib.Nat.{div-div-eq-div-mul}
 use borrow.Author.Tests.{lt-leb}
+use Rattle.std.specs.List.{onto_first}
+use Rattle.std.proofs.lemmas.List.Splits.{slice_split-cons_no}
 use Rattle.std.proofs.lemmas.Fmt.{digits_decimal, digits_value-decimal, length-decimal-le, first_decimal, decimal_digit}
 use Rattle.tokens.specs.Forms.{Shape, variables, joins, becomes, ends, gives, starts, sign_byte, kind_in, shape_by, shape, second, values}
-use Rattle.tokens.specs.Lines.{Raw, whole, grow, raw_lines, on_first, fields}
+use Rattle.tokens.specs.Lines.{Raw, whole, grow, raw_lines, fields}
 use Rattle.tokens.specs.Numbers.{is_digit, all_digits, value_on, plain, number, hex_value, hex_on, set}
 use Rattle.tokens.specs.declared.said.Said.{Said}
 use Rattle.tokens.specs.declared.said.Said.TheVariants.{Variables, Joins, Becomes, Ends, Gives, Starts}
@@ -31,11 +33,11 @@ lacks_append c (x ∷ xs) ys h k = (h.0, lacks_append c xs ys h.1 k)
 
 fields_more : (f r : List ℕ) → Lacks 44 f → fields (f ++ (44 ∷ r)) ≡ f ∷ fields r
 fields_more [] r h = refl
-fields_more (b ∷ f) r h = ap (λ t. cond t ([] ∷ fields (f ++ (44 ∷ r))) (on_first b (fields (f ++ (44 ∷ r))))) h.0 ∙ ap (on_first b) (fields_more f r h.1)
+fields_more (b ∷ f) r h = slice_split-cons_no (λ c. eqb c 44) b (f ++ (44 ∷ r)) h.0 ∙ ap (onto_first b) (fields_more f r h.1)
 
 fields_last : (f : List ℕ) → Lacks 44 f → fields f ≡ f ∷ []
 fields_last [] h = refl
-fields_last (b ∷ f) h = ap (λ t. cond t ([] ∷ fields f) (on_first b (fields f))) h.0 ∙ ap (on_first b) (fields_last f h.1)
+fields_last (b ∷ f) h = slice_split-cons_no (λ c. eqb c 44) b f h.0 ∙ ap (onto_first b) (fields_last f h.1)
 
 lines_more : (l r : List ℕ) → Lacks 10 l → raw_lines (l ++ (10 ∷ r)) ≡ whole l ∷ raw_lines r
 lines_more [] r h = refl
@@ -99,10 +101,6 @@ hex_digits_on (suc k) v q e =
   where
     step : ℕ → Option ℕ → List ℕ → Option ℕ
     step v o r = elim o [ None ↦ None | Some d ↦ hex_on (16 * v + d) r ]
-
-length_hex : (k q : ℕ) → length (hex_digits k q) ≡ k
-length_hex zero q = refl
-length_hex (suc k) q = ap suc (length_hex k q)
 
 set_hex : (q : ℕ) → q < 2 ^ 64 → set (hex_digits 16 q) ≡ Some q
 set_hex q l = hex_digits_on 16 0 q (let e : q / 2 ^ 64 ≡ 0 = omega arith in e)

@@ -1,40 +1,55 @@
 -- The code's tables and counts, as what has been read: what the functions inside the reader promise each other.
-use Rattle.std.specs.Prelude.{◌≡◌, ℕ, suc, ◌<◌, ◌≤◌, false, List, ◌∷◌, length, take, drop, Some, None, Ok, Err, Result}
+use Rattle.std.specs.Prelude.{◌≡◌, ℕ, suc, ◌<◌, ◌≤◌, true, false, List, ◌∷◌, length, take, drop, Some, None, Option, Ok, Err, Result, nat_lt}
+use Rattle.std.specs.Borrow.{MutBor}
 use Rattle.processes.specs.declared.equations.Equation.{Equation}
 use Rattle.processes.specs.declared.terms.Term.{Term}
-use Rattle.tokens.specs.Lines.{Raw, whole}
+use Rattle.tokens.specs.Lines.{Raw, whole, raw_lines}
 use Rattle.tokens.specs.declared.said.Said.{Said}
 use Rattle.tokens.specs.declared.said.Said.TheVariants as said
 use Rattle.tokens.specs.declared.token.Kind.{Kind}
 use Rattle.tokens.specs.declared.token.Kind.TheVariants.{Action, Deadlock, Variable, Choice, Sequence, Merge, LeftMerge, CommMerge, Block, Hide}
-use Rattle.transitions.specs.Listed.{Once}
 use Rattle.transitions.specs.declared.lines.JoinLine.{JoinLine}
 use Rattle.modelfile.specs.declared.answers.Counts.{Counts}
+use Rattle.modelfile.specs.declared.answers.Refusal.{Refusal}
 use Rattle.modelfile.specs.declared.entries.Entry.{Entry}
 use Rattle.modelfile.specs.declared.entries.Entry.TheVariants as entry
-use Rattle.modelfile.specs.declared.entries.Sofar.{Sofar}
-use Rattle.modelfile.specs.declared.entries.Turn.{Turn}
-use Rattle.modelfile.specs.declared.entries.Turn.TheVariants.{Refused, Starts, Reads}
+use Rattle.modelfile.specs.declared.filling.Filling.{Filling}
+use Rattle.modelfile.specs.declared.filling.Section.{Section}
+use Rattle.modelfile.specs.declared.filling.Section.TheVariants as section
 use Rattle.modelfile.specs.Accepted.{Room}
 use Rattle.modelfile.specs.declared.faults.Fault.{Fault}
-use Rattle.modelfile.specs.Computed.{fault_said, judged, faulty, fine, read_lines, ended, refused_at, reading, read}
+use Rattle.modelfile.specs.declared.faults.Fault.TheVariants.{TooLong}
+use Rattle.modelfile.specs.Computed.{Test, first_fault, fault_said, judged, faulty, fine, Answer, read_lines, ended, refused_at, reading, read}
 use Rattle.modelfile.specs.Entries.{entry_of}
 use Rattle.modelfile.specs.Promise.{room_is, tables_is}
-use Rattle.modelfile.specs.Tests.{after, said_before}
-use Rattle.modelfile.specs.Tests as file
+use Rattle.modelfile.specs.Tests.{Sofar, after, said_before}
 
--- What stands in the tables.
-abbrev pub sofar_is : Sofar → List JoinLine → List Equation → List Term → file.Sofar
-sofar_is s ls es ts = record { turn = s.turn; variables = s.variables; lines = take s.lines ls; equations = take s.equations es; terms = take s.terms ts }
+-- The turn of a section's lines, and the turn once a line of the section is read: 0 before the first line.
+abbrev pub place_of : Section → ℕ
+place_of section.Variables = 0
+place_of section.Joins = 1
+place_of section.Equations = 2
+place_of section.Terms = 3
+place_of section.Start = 4
 
-pub record Counted (s : Sofar) (ls : List JoinLine) (es : List Equation) (ts : List Term) : Type 0 where
-  pub variables_few : s.variables ≤ 256
-  pub lines_in : s.lines ≤ length ls
-  pub equations_in : s.equations ≤ length es
-  pub terms_in : s.terms ≤ length ts
-  pub terms_few : s.terms ≤ 256
-  pub turn_few : s.turn ≤ 5
-  pub once : Once (take s.lines ls)
+abbrev pub turn_after : Option Section → ℕ
+turn_after None = 0
+turn_after (Some s) = suc (place_of s)
+
+-- What has been read.
+abbrev pub seen : Filling → Sofar
+seen f = record { turn = turn_after f.section; variables = f.variables; lines = take f.line_count f.lines.now; equations = take f.equation_count f.equations.now; terms = take f.term_count f.terms.now }
+
+-- The room that the rows give.
+abbrev pub room_of : Filling → Room
+room_of f = room_is f.lines.now f.equations.now f.terms.now
+
+-- The same row, filled further: the entries past its end are as they were.
+pub record Grows {A : Type 0} (n : ℕ) (r : MutBor (List A)) (n' : ℕ) (r' : MutBor (List A)) : Type 0 where
+  pub same : r'.ghost_name ≡ r.ghost_name
+  pub room : length r'.now ≡ length r.now
+  pub more : n ≤ n'
+  pub past : drop n' r'.now ≡ drop n' r.now
 
 -- What is said is narrow enough to be stored: what test 5 tells, what test 6 tells, and both.
 abbrev pub NarrowLeaf : Kind → ℕ → Type 0
@@ -91,72 +106,98 @@ Small (entry.Gives t) = Unit {0}
 Small (entry.Starts n) = Unit {0}
 
 -- There is room for the entry.
-abbrev pub Roomy : ℕ → ℕ → ℕ → Sofar → Entry → Type 0
-Roomy ls es ts s (entry.Variables v) = Unit {0}
-Roomy ls es ts s (entry.Joins l) = s.lines < ls
-Roomy ls es ts s (entry.Does e) = s.equations < es
-Roomy ls es ts s (entry.Gives t) = (s.terms < ts) × (s.terms < 256)
-Roomy ls es ts s (entry.Starts n) = Unit {0}
+abbrev pub Roomy : Filling → Entry → Type 0
+Roomy f (entry.Variables v) = Unit {0}
+Roomy f (entry.Joins l) = f.line_count < length f.lines.now
+Roomy f (entry.Does e) = f.equation_count < length f.equations.now
+Roomy f (entry.Gives t) = (f.term_count < length f.terms.now) × (f.term_count < 256)
+Roomy f (entry.Starts n) = Unit {0}
 
 -- The entry is not said before, and there is room for it.
-pub record Fits (s : Sofar) (e : Entry) (ls : List JoinLine) (es : List Equation) (ts : List Term) : Type 0 where
-  pub roomy : Roomy (length ls) (length es) (length ts) s e
-  pub fresh : said_before (sofar_is s ls es ts) e ≡ false
+pub record Fits (f : Filling) (e : Entry) : Type 0 where
+  pub roomy : Roomy f e
+  pub fresh : said_before (seen f) e ≡ false
 
-pub record Taken (s : Sofar) (d : Said) (e : Entry) (ls : List JoinLine) (es : List Equation) (ts : List Term) : Type 0 where
-  pub faultless : fault_said (room_is ls es ts) (sofar_is s ls es ts) d ≡ None
+-- The first of the tests that holds is the fault found.
+abbrev pub Finds : List Test → Result (Unit {0}) Fault → Type 0
+Finds ts (Ok u) = first_fault ts ≡ None
+Finds ts (Err k) = first_fault ts ≡ Some k
+
+pub record Taken (f : Filling) (d : Said) (e : Entry) : Type 0 where
+  pub faultless : fault_said (room_of f) (seen f) d ≡ None
   pub is : e ≡ entry_of d
   pub small : Small e
-  pub fits : Fits s e ls es ts
+  pub fits : Fits f e
 
-abbrev pub SaidJudged : Sofar → Said → List JoinLine → List Equation → List Term → Result Entry Fault → Type 0
-SaidJudged s d ls es ts (Ok e) = Taken s d e ls es ts
-SaidJudged s d ls es ts (Err k) = fault_said (room_is ls es ts) (sofar_is s ls es ts) d ≡ Some k
+abbrev pub SaidJudged : Filling → Said → Result Entry Fault → Type 0
+SaidJudged f d (Ok e) = Taken f d e
+SaidJudged f d (Err k) = fault_said (room_of f) (seen f) d ≡ Some k
 
-pub record Adds (s : Sofar) (text : List ℕ) (e : Entry) (ls : List JoinLine) (es : List Equation) (ts : List Term) : Type 0 where
+pub record Adds (f : Filling) (text : List ℕ) (e : Entry) : Type 0 where
   pub said : Said
-  pub is_fine : judged (room_is ls es ts) (sofar_is s ls es ts) (whole text) ≡ fine said
+  pub is_fine : judged (room_of f) (seen f) (whole text) ≡ fine said
   pub is : e ≡ entry_of said
   pub small : Small e
-  pub fits : Fits s e ls es ts
+  pub fits : Fits f e
 
-abbrev pub LineJudged : Sofar → List ℕ → List JoinLine → List Equation → List Term → Result Entry Fault → Type 0
-LineJudged s text ls es ts (Ok e) = Adds s text e ls es ts
-LineJudged s text ls es ts (Err k) = judged (room_is ls es ts) (sofar_is s ls es ts) (whole text) ≡ faulty k
+abbrev pub LineJudged : Filling → List ℕ → Result Entry Fault → Type 0
+LineJudged f text (Ok e) = Adds f text e
+LineJudged f text (Err k) = judged (room_of f) (seen f) (whole text) ≡ faulty k
 
--- The entry is stored behind what stood, and the entries past it are as they were.
-pub record Stored (s : Sofar) (e : Entry) (ls : List JoinLine) (es : List Equation) (ts : List Term) (s' : Sofar) (ls' : List JoinLine) (es' : List Equation) (ts' : List Term) : Type 0 where
-  pub is : sofar_is s' ls' es' ts' ≡ after (sofar_is s ls es ts) e
-  pub counted : Counted s' ls' es' ts'
-  pub past_lines : drop s'.lines ls' ≡ drop s'.lines ls
-  pub past_equations : drop s'.equations es' ≡ drop s'.equations es
-  pub past_terms : drop s'.terms ts' ≡ drop s'.terms ts
-  pub more_lines : s.lines ≤ s'.lines
-  pub more_equations : s.equations ≤ s'.equations
-  pub more_terms : s.terms ≤ s'.terms
+-- The entry is stored behind what stood.
+pub record Stores (f : Filling) (e : Entry) (f' : Filling) : Type 0 where
+  pub is : seen f' ≡ after (seen f) e
+  pub lines : Grows f.line_count f.lines f'.line_count f'.lines
+  pub equations : Grows f.equation_count f.equations f'.equation_count f'.equations
+  pub terms : Grows f.term_count f.terms f'.term_count f'.terms
 
 -- One line further.
-pub record Onward (R : Room) (text : List ℕ) (s s' : Sofar) (ls : List JoinLine) (es : List Equation) (ts : List Term) (ls' : List JoinLine) (es' : List Equation) (ts' : List Term) : Type 0 where
-  pub reads : (i : ℕ) (rest : List Raw) → read_lines R i (sofar_is s ls es ts) (whole text ∷ rest) ≡ read_lines R (suc i) (sofar_is s' ls' es' ts') rest
-  pub counted : Counted s' ls' es' ts'
-  pub past_lines : drop s'.lines ls' ≡ drop s'.lines ls
-  pub past_equations : drop s'.equations es' ≡ drop s'.equations es
-  pub past_terms : drop s'.terms ts' ≡ drop s'.terms ts
-  pub more_lines : s.lines ≤ s'.lines
-  pub more_equations : s.equations ≤ s'.equations
-  pub more_terms : s.terms ≤ s'.terms
+pub record Onward (f : Filling) (text : List ℕ) (f' : Filling) : Type 0 where
+  pub reads : (i : ℕ) (rest : List Raw) → read_lines (room_of f) i (seen f) (whole text ∷ rest) ≡ read_lines (room_of f) (suc i) (seen f') rest
+  pub lines : Grows f.line_count f.lines f'.line_count f'.lines
+  pub equations : Grows f.equation_count f.equations f'.equation_count f'.equations
+  pub terms : Grows f.term_count f.terms f'.term_count f'.terms
 
--- The start line.
-pub record Begins (R : Room) (text : List ℕ) (s : Sofar) (n : ℕ) (ls : List JoinLine) (es : List Equation) (ts : List Term) (ls' : List JoinLine) (es' : List Equation) (ts' : List Term) : Type 0 where
-  pub reads : (i : ℕ) (rest : List Raw) → read_lines R i (sofar_is s ls es ts) (whole text ∷ rest) ≡ ended i (sofar_is s ls es ts) n rest
-  pub lines_stay : ls' ≡ ls
-  pub equations_stay : es' ≡ es
-  pub terms_stay : ts' ≡ ts
+-- The start line, which adds nothing.
+pub record Begins (f : Filling) (text : List ℕ) (n : ℕ) (f' : Filling) : Type 0 where
+  pub reads : (i : ℕ) (rest : List Raw) → read_lines (room_of f) i (seen f) (whole text ∷ rest) ≡ ended i (seen f) n rest
+  pub stays : f' ≡ f
 
-abbrev pub TurnIs : Room → List ℕ → Sofar → List JoinLine → List Equation → List Term → List JoinLine → List Equation → List Term → Turn → Type 0
-TurnIs R text s ls es ts ls' es' ts' (Refused k) = (i : ℕ) (rest : List Raw) → read_lines R i (sofar_is s ls es ts) (whole text ∷ rest) ≡ refused_at k i
-TurnIs R text s ls es ts ls' es' ts' (Starts n) = Begins R text s n ls es ts ls' es' ts'
-TurnIs R text s ls es ts ls' es' ts' (Reads s') = Onward R text s s' ls es ts ls' es' ts'
+-- A line with a fault, which adds nothing.
+pub record Faulty (f : Filling) (text : List ℕ) (k : Fault) (f' : Filling) : Type 0 where
+  pub reads : (i : ℕ) (rest : List Raw) → read_lines (room_of f) i (seen f) (whole text ∷ rest) ≡ refused_at k i
+  pub stays : f' ≡ f
+
+-- What one line leads to: a refusal, the start term, or a state to go on from.
+abbrev pub ReadsLine : Filling → List ℕ → Filling → Result (Option ℕ) Fault → Type 0
+ReadsLine f text f' (Err k) = Faulty f text k f'
+ReadsLine f text f' (Ok (Some n)) = Begins f text n f'
+ReadsLine f text f' (Ok None) = Onward f text f'
+
+-- How far each row is filled, with the start term.
+abbrev pub counts_of : Filling → ℕ → Counts
+counts_of f n = record { variables = f.variables; lines = f.line_count; equations = f.equation_count; terms = f.term_count; start = n }
+
+-- The lines of a file from the first on, behind what has been read.
+abbrev pub reading_on : Filling → List ℕ → Answer
+reading_on f bytes = elim (nat_lt 32768 (length bytes)) [ true ↦ refused_at TooLong 0 | false ↦ read_lines (room_of f) 1 (seen f) (raw_lines bytes) ]
+
+-- The start line is reached, and nothing stands behind it.
+pub record Ends (f : Filling) (bytes : List ℕ) (n : Counts) (f' : Filling) : Type 0 where
+  pub start : ℕ
+  pub is : n ≡ counts_of f' start
+  pub reads : reading_on f bytes ≡ read (tables_is n f'.lines.now f'.equations.now f'.terms.now)
+  pub lines : Grows f.line_count f.lines f'.line_count f'.lines
+  pub equations : Grows f.equation_count f.equations f'.equation_count f'.equations
+  pub terms : Grows f.term_count f.terms f'.term_count f'.terms
+
+pub record Refuses (f : Filling) (bytes : List ℕ) (e : Refusal) : Type 0 where
+  pub reads : reading_on f bytes ≡ refused_at e.fault e.line
+
+-- What the lines of a file lead to: the counts of what has been read, or a refusal.
+abbrev pub ReadsFile : Filling → List ℕ → Filling → Result Counts Refusal → Type 0
+ReadsFile f bytes f' (Ok n) = Ends f bytes n f'
+ReadsFile f bytes f' (Err e) = Refuses f bytes e
 
 -- The tables are those of the file, and the entries past them are as they were.
 pub record Filled (bytes : List ℕ) (n : Counts) (ls : List JoinLine) (es : List Equation) (ts : List Term) (ls' : List JoinLine) (es' : List Equation) (ts' : List Term) : Type 0 where

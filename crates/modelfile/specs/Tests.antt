@@ -48,21 +48,24 @@ out_of_turn zero t = not (t == 0)
 out_of_turn (suc k) t = t == 0 || nat_lt t k
 
 -- 5: of v variables, one over its limit; an action over 63; an unused operand that is not 0.
+abbrev pub term_over_limit : ℕ → Kind → ℕ → ℕ → Bool
+term_over_limit v Action p q = nat_lt 63 p || not (q == 0)
+term_over_limit v Deadlock p q = not (p == 0) || not (q == 0)
+term_over_limit v Variable p q = nat_le v p || not (q == 0)
+term_over_limit v Choice p q = false
+term_over_limit v Sequence p q = false
+term_over_limit v Merge p q = false
+term_over_limit v LeftMerge p q = false
+term_over_limit v CommMerge p q = false
+term_over_limit v Block p q = false
+term_over_limit v Hide p q = false
+
 abbrev pub over_limit : ℕ → Said → Bool
 over_limit v (Variables w) = nat_lt 256 w
 over_limit v (Joins a b r) = nat_lt 63 a || nat_lt 63 b || nat_lt 63 r
 over_limit v (Becomes x a y) = nat_le v x || nat_lt 63 a || nat_le v y
 over_limit v (Ends x a) = nat_le v x || nat_lt 63 a
-over_limit v (Gives n Action p q) = nat_lt 63 p || not (q == 0)
-over_limit v (Gives n Deadlock p q) = not (p == 0) || not (q == 0)
-over_limit v (Gives n Variable p q) = nat_le v p || not (q == 0)
-over_limit v (Gives n Choice p q) = false
-over_limit v (Gives n Sequence p q) = false
-over_limit v (Gives n Merge p q) = false
-over_limit v (Gives n LeftMerge p q) = false
-over_limit v (Gives n CommMerge p q) = false
-over_limit v (Gives n Block p q) = false
-over_limit v (Gives n Hide p q) = false
+over_limit v (Gives n k p q) = term_over_limit v k p q
 over_limit v (Starts n) = false
 
 -- Not a term before n.

@@ -1,7 +1,7 @@
 use super::faults::Fault;
 
 // How far each table is filled, the count of variables, and the start term.
-#[derive(Clone, Copy)]
+#[derive(Clone, Copy, Debug, PartialEq, Eq)]
 pub struct Counts {
     pub variables: usize,
     pub lines: usize,
@@ -11,7 +11,7 @@ pub struct Counts {
 }
 
 // Why a file is refused, and at which line, counted from 1; line 0 stands for the whole file.
-#[derive(Clone, Copy)]
+#[derive(Clone, Copy, Debug, PartialEq, Eq)]
 pub struct Refusal {
     pub fault: Fault,
     pub line: usize,

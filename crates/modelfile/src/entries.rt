@@ -1,40 +1,22 @@
-// What a line adds to the tables, and how far the reading has come.
+// What a line adds to the tables.
 ghost use Rattle.std.specs.Prelude.{◌≡◌};
 ghost use Rattle.modelfile.specs.Entries.{entry_of, term_of};
 ghost use Rattle.modelfile.specs.State.{Narrow, NarrowTerm, Small};
 
-use super::faults::Fault;
 use processes::equations::Equation;
 use processes::terms::Term;
 use tokens::said::Said;
 use tokens::token::Kind;
 use transitions::lines::JoinLine;
 
-#[derive(Clone, Copy)]
+// An entry of one of the tables, the count of variables, or the start term.
+#[derive(Clone, Copy, Debug, PartialEq, Eq)]
 pub enum Entry {
     Variables(u32),
     Joins(JoinLine),
     Does(Equation),
     Gives(Term),
     Starts(u32),
-}
-
-// `turn` is 0 before the first line, and then one more than the turn of the last line.
-#[derive(Clone, Copy)]
-pub struct Sofar {
-    pub turn: u8,
-    pub variables: u32,
-    pub lines: usize,
-    pub equations: usize,
-    pub terms: usize,
-}
-
-// What one line leads to: a refusal, the start term, or a state to go on from.
-#[derive(Clone, Copy)]
-pub enum Turn {
-    Refused(Fault),
-    Starts(u32),
-    Reads(Sofar),
 }
 
 // The term by its kind and operands, which are narrow enough.
@@ -71,7 +53,7 @@ pub(crate) fn entry_of(said: Said) -> Entry
         }),
         Said::Ends(x, a) => Entry::Does(Equation::Ends(x as u8, a as u8)),
         Said::Becomes(x, a, y) => Entry::Does(Equation::Becomes(x as u8, a as u8, y as u8)),
-        Said::Gives(_n, k, p, q) => Entry::Gives(term_of(k, p, q)),
+        Said::Gives(_, kind, p, q) => Entry::Gives(term_of(kind, p, q)),
         Said::Starts(n) => Entry::Starts(n),
     }
 }

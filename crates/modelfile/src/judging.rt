@@ -1,123 +1,96 @@
 // The fault of a line: the first that applies.
-ghost use Rattle.std.specs.Prelude.{◌≡◌, ◌≤◌, Some, None};
+ghost use Rattle.std.specs.Prelude.{◌≤◌, OnOk};
 ghost use Rattle.transitions.specs.Listed.{Once};
-ghost use Rattle.modelfile.specs.Computed.{first_fault, early_tests, late_tests, start_tests};
-ghost use Rattle.modelfile.specs.Promise.{room_is};
-ghost use Rattle.modelfile.specs.State.{Counted, Narrow, Fits, SaidJudged, LineJudged, sofar_is};
+ghost use Rattle.modelfile.specs.Computed.{early_tests, late_tests, start_tests};
+ghost use Rattle.modelfile.specs.State.{turn_after, Finds, Narrow};
 
-use super::entries::{Entry, Sofar, entry_of};
+use super::entries::{Entry, entry_of};
 use super::faults::Fault;
-use super::limits::{has_wrong_number, is_out_of_turn, is_over_limit, turn_of, uses_silent};
-use super::repeats::{is_said_before, is_too_many, start_of};
+use super::filling::{Filling, Section};
+use super::limits::{has_wrong_number, is_out_of_turn, is_over_limit, section_of, uses_silent};
 use acceptance::rings::has_no_ring;
 use actions::grouping::is_associative;
 use processes::equations::Equation;
-use processes::terms::Term;
 use tokens::forms::form_of;
 use tokens::said::Said;
 use tokens::values::said_of;
 use transitions::lines::JoinLine;
 
 // The first fault of the numbers that are said: 4 to 7.
-fn early_fault(st: Sofar, said: Said) -> Option<Fault>
-    requires { (st.variables ≤ 256) × (st.terms ≤ 256) }
-    ensures is { first_fault (early_tests st.turn st.variables st.terms said) ≡ result }
-    ensures narrow { elim result [ Some k ↦ Unit {0} | None ↦ Narrow said ] }
+fn check_said(last: Option<Section>, variables: u32, terms: usize, said: Said) -> Result<(), Fault>
+    requires variables_few { variables ≤ 256 }
+    requires terms_few { terms ≤ 256 }
+    ensures finds { Finds (early_tests (turn_after last) variables terms said) result }
+    ensures narrow { OnOk result (Narrow said) }
 {
-    if is_out_of_turn(st.turn, turn_of(said)) {
-        return Some(Fault::OutOfTurn);
+    if is_out_of_turn(last, section_of(said)) {
+        return Err(Fault::OutOfTurn);
     }
-    if is_over_limit(st.variables, said) {
-        return Some(Fault::OverLimit);
+    if is_over_limit(variables, said) {
+        return Err(Fault::OverLimit);
     }
-    if has_wrong_number(st.terms, said) {
-        return Some(Fault::WrongNumber);
+    if has_wrong_number(terms, said) {
+        return Err(Fault::WrongNumber);
     }
     if uses_silent(said) {
-        return Some(Fault::SilentUsed);
+        return Err(Fault::SilentUsed);
     }
-    None
+    Ok(())
 }
 
 // The first fault at the start line: 10 and 11.
-fn start_fault(lines: &[JoinLine], equations: &[Equation]) -> Option<Fault>
+fn check_start(lines: &[JoinLine], equations: &[Equation]) -> Result<(), Fault>
     requires { Once lines.now }
-    ensures { first_fault (start_tests lines.now equations.now) ≡ result }
+    ensures { Finds (start_tests lines.now equations.now) result }
 {
     if !is_associative(lines) {
-        return Some(Fault::NotAssociative);
+        return Err(Fault::NotAssociative);
     }
     if !has_no_ring(equations) {
-        return Some(Fault::SilentRing);
+        return Err(Fault::SilentRing);
     }
-    None
+    Ok(())
 }
 
-// The first fault of the entry: 8 to 11.
-fn late_fault(
-    st: Sofar,
-    entry: Entry,
-    lines: &[JoinLine],
-    equations: &[Equation],
-    terms: &[Term],
-) -> Option<Fault>
-    requires { Counted st lines.now equations.now terms.now }
-    ensures is { first_fault (late_tests (room_is lines.now equations.now terms.now) (sofar_is st lines.now equations.now terms.now) entry) ≡ result }
-    ensures fits { elim result [ Some k ↦ Unit {0} | None ↦ Fits st entry lines.now equations.now terms.now ] }
-{
-    if is_said_before(st, entry, lines, equations, terms) {
-        return Some(Fault::SaidBefore);
-    }
-    if is_too_many(st, entry, lines.len(), equations.len(), terms.len()) {
-        return Some(Fault::TooMany);
-    }
-    match start_of(entry) {
-        Some(_n) => {
-            let line_count = st.lines;
-            let equation_count = st.equations;
-            start_fault(&lines[0..line_count], &equations[0..equation_count])
+impl Filling<'_> {
+    ghost use Rattle.modelfile.specs.State.{seen, room_of, Fits, SaidJudged, LineJudged};
+
+    // The first fault of the entry: 8 to 11.
+    fn check_entry(&self, entry: Entry) -> Result<(), Fault>
+        ensures finds { Finds (late_tests (room_of self.now) (seen self.now) entry) result }
+        ensures fits { OnOk result (Fits self.now entry) }
+    {
+        if self.is_said_before(entry) {
+            return Err(Fault::SaidBefore);
         }
-        None => None,
+        if self.is_too_many(entry) {
+            return Err(Fault::TooMany);
+        }
+        match entry {
+            Entry::Starts(_) => check_start(
+                &self.lines[..self.line_count],
+                &self.equations[..self.equation_count],
+            ),
+            _ => Ok(()),
+        }
     }
-}
 
-// The entry that is said, or the first fault of what is said.
-fn judge_said(
-    st: Sofar,
-    said: Said,
-    lines: &[JoinLine],
-    equations: &[Equation],
-    terms: &[Term],
-) -> Result<Entry, Fault>
-    requires { Counted st lines.now equations.now terms.now }
-    ensures { SaidJudged st said lines.now equations.now terms.now result }
-{
-    if let Some(k) = early_fault(st, said) {
-        return Err(k);
+    // The entry that is said, or the first fault of what is said.
+    fn judge_said(&self, said: Said) -> Result<Entry, Fault>
+        ensures { SaidJudged self.now said result }
+    {
+        check_said(self.section, self.variables, self.term_count, said)?;
+        let entry = entry_of(said);
+        self.check_entry(entry)?;
+        Ok(entry)
     }
-    let entry = entry_of(said);
-    match late_fault(st, entry, lines, equations, terms) {
-        Some(k) => Err(k),
-        None => Ok(entry),
-    }
-}
 
-// The entry that a finished line adds, or the first fault of the line.
-pub(crate) fn judge_line(
-    st: Sofar,
-    text: &[u8],
-    lines: &[JoinLine],
-    equations: &[Equation],
-    terms: &[Term],
-) -> Result<Entry, Fault>
-    requires { Counted st lines.now equations.now terms.now }
-    ensures { LineJudged st text.now lines.now equations.now terms.now result }
-{
-    let Some(form) = form_of(text) else {
-        return Err(Fault::NoForm);
-    };
-    let Some(said) = said_of(form) else {
-        return Err(Fault::NoValue);
-    };
-    judge_said(st, said, lines, equations, terms)
+    // The entry that a finished line adds, or the first fault of the line.
+    pub(crate) fn judge_line(&self, text: &[u8]) -> Result<Entry, Fault>
+        ensures { LineJudged self.now text.now result }
+    {
+        let form = form_of(text).ok_or(Fault::NoForm)?;
+        let said = said_of(form).ok_or(Fault::NoValue)?;
+        self.judge_said(said)
+    }
 }

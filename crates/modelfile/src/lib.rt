@@ -4,6 +4,7 @@
 pub mod answers;
 mod entries;
 pub mod faults;
+mod filling;
 mod judging;
 mod limits;
 pub mod reading;

@@ -1,37 +1,37 @@
 // What is said, tested for its turn, its limits, its term numbers, and the silent action.
-ghost use Rattle.std.specs.Prelude.{◌≡◌, ℕ, ◌≤◌, false};
-ghost use Rattle.tokens.specs.declared.said.Said.TheVariants.{Gives};
-ghost use Rattle.modelfile.specs.State.{Limited, NarrowLeaf, NarrowNode, Numbered};
-ghost use Rattle.modelfile.specs.Tests.{turn_of, out_of_turn, over_limit, not_before, operand_not_before, wrong_number, odd_set, silent_used};
+ghost use Rattle.std.specs.Prelude.{◌≡◌, ◌≤◌, false};
+ghost use Rattle.modelfile.specs.State.{turn_after, place_of, Limited, NarrowLeaf, NarrowNode, Numbered};
+ghost use Rattle.modelfile.specs.Tests.{turn_of, out_of_turn, over_limit, term_over_limit, not_before, operand_not_before, wrong_number, odd_set, silent_used};
 
+use super::filling::Section;
 use tokens::said::Said;
 use tokens::token::Kind;
 
-pub(crate) fn turn_of(said: Said) -> u8
-    ensures { (result ≡ turn_of said) × (result ≤ 4) }
+// The section that the line belongs to.
+pub(crate) fn section_of(said: Said) -> Section
+    ensures { place_of result ≡ turn_of said }
 {
     match said {
-        Said::Variables(_) => 0,
-        Said::Joins(_, _, _) => 1,
-        Said::Becomes(_, _, _) => 2,
-        Said::Ends(_, _) => 2,
-        Said::Gives(_, _, _, _) => 3,
-        Said::Starts(_) => 4,
+        Said::Variables(_) => Section::Variables,
+        Said::Joins(_, _, _) => Section::Joins,
+        Said::Becomes(_, _, _) | Said::Ends(_, _) => Section::Equations,
+        Said::Gives(_, _, _, _) => Section::Terms,
+        Said::Starts(_) => Section::Start,
     }
 }
 
-pub(crate) fn is_out_of_turn(turn: u8, t: u8) -> bool
-    ensures { result ≡ out_of_turn turn t }
+// Whether a line of the section `next` may not follow one of the section `last`, or may not be the first.
+pub(crate) fn is_out_of_turn(last: Option<Section>, next: Section) -> bool
+    ensures { result ≡ out_of_turn (turn_after last) (place_of next) }
 {
-    if turn == 0 {
-        t != 0
-    } else {
-        t == 0 || t < turn - 1
+    match last {
+        None => next != Section::Variables,
+        Some(last) => next == Section::Variables || next < last,
     }
 }
 
 fn is_term_over_limit(variables: u32, kind: Kind, p: u32, q: u64) -> bool
-    ensures is { (n : ℕ) → result ≡ over_limit variables (Gives n kind p q) }
+    ensures is { result ≡ term_over_limit variables kind p q }
     ensures narrow { result ≡ false → variables ≤ 256 → NarrowLeaf kind p }
 {
     match kind {
@@ -52,7 +52,7 @@ pub(crate) fn is_over_limit(variables: u32, said: Said) -> bool
         Said::Joins(a, b, r) => a > 63 || b > 63 || r > 63,
         Said::Becomes(x, a, y) => x >= variables || a > 63 || y >= variables,
         Said::Ends(x, a) => x >= variables || a > 63,
-        Said::Gives(_n, k, p, q) => is_term_over_limit(variables, k, p, q),
+        Said::Gives(_, kind, p, q) => is_term_over_limit(variables, kind, p, q),
         Said::Starts(_) => false,
     }
 }
@@ -68,11 +68,8 @@ fn has_later_operand(n: u32, kind: Kind, p: u32, q: u64) -> bool
     ensures narrow { result ≡ false → n ≤ 257 → NarrowNode kind p q }
 {
     match kind {
-        Kind::Action => false,
-        Kind::Deadlock => false,
-        Kind::Variable => false,
-        Kind::Block => is_not_before(n, p as u64),
-        Kind::Hide => is_not_before(n, p as u64),
+        Kind::Action | Kind::Deadlock | Kind::Variable => false,
+        Kind::Block | Kind::Hide => is_not_before(n, p as u64),
         _ => is_not_before(n, p as u64) || is_not_before(n, q),
     }
 }
@@ -85,7 +82,7 @@ pub(crate) fn has_wrong_number(terms: usize, said: Said) -> bool
 {
     let next = terms as u32 + 1;
     match said {
-        Said::Gives(n, k, p, q) => n != next || has_later_operand(n, k, p, q),
+        Said::Gives(n, kind, p, q) => n != next || has_later_operand(n, kind, p, q),
         Said::Starts(n) => is_not_before(next, n as u64),
         _ => false,
     }
@@ -94,11 +91,7 @@ pub(crate) fn has_wrong_number(terms: usize, said: Said) -> bool
 fn is_odd_set(kind: Kind, q: u64) -> bool
     ensures { result ≡ odd_set kind q }
 {
-    match kind {
-        Kind::Block => q % 2 == 1,
-        Kind::Hide => q % 2 == 1,
-        _ => false,
-    }
+    matches!(kind, Kind::Block | Kind::Hide) && q % 2 == 1
 }
 
 // Whether the silent action stands in a communication or a set.
@@ -107,7 +100,7 @@ pub(crate) fn uses_silent(said: Said) -> bool
 {
     match said {
         Said::Joins(a, b, r) => a == 0 || b == 0 || r == 0,
-        Said::Gives(_n, k, _p, q) => is_odd_set(k, q),
+        Said::Gives(_, kind, _, q) => is_odd_set(kind, q),
         _ => false,
     }
 }

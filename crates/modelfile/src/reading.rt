@@ -1,102 +1,80 @@
-// A model file read into lent tables.
-ghost use Rattle.std.specs.Prelude.{◌≡◌, Ok, Err};
-ghost use Rattle.modelfile.specs.Computed.{reading as computed, refused_at};
-ghost use Rattle.modelfile.specs.Promise.{IsRead, room_is};
-ghost use Rattle.modelfile.specs.State.{Counted, Filled, TurnIs};
+// A model file read into lent rows.
+ghost use Rattle.modelfile.specs.Promise.{IsRead};
 
 use super::answers::{Counts, Refusal};
-use super::entries::{Sofar, Turn};
+use super::entries::Entry;
 use super::faults::Fault;
-use super::judging::judge_line;
-use super::repeats::start_of;
-use super::storing::store;
+use super::filling::Filling;
 use processes::equations::Equation;
 use processes::terms::Term;
 use rows::clear;
-use tokens::cutting::{Piece, next_line};
+use tokens::cutting::next_line;
 use transitions::lines::JoinLine;
 
-// One finished line: judged, and stored unless it names the start term.
-fn read_line(
-    st: Sofar,
-    text: &[u8],
-    lines: &mut [JoinLine],
-    equations: &mut [Equation],
-    terms: &mut [Term],
-) -> Turn
-    requires { Counted st lines.old equations.old terms.old }
-    ensures { TurnIs (room_is lines.old equations.old terms.old) text.now st lines.old equations.old terms.old lines.new equations.new terms.new result }
-{
-    match judge_line(st, text, lines, equations, terms) {
-        Err(k) => Turn::Refused(k),
-        Ok(entry) => match start_of(entry) {
-            Some(n) => Turn::Starts(n),
-            None => Turn::Reads(store(st, entry, lines, equations, terms)),
-        },
-    }
-}
+impl Filling<'_> {
+    ghost use Rattle.std.specs.Prelude.{◌≡◌};
+    ghost use Rattle.modelfile.specs.State.{ReadsLine, ReadsFile, counts_of};
 
-// The file into the tables; a refusal may leave anything in them.
-fn try_read(
-    bytes: &[u8],
-    lines: &mut [JoinLine],
-    equations: &mut [Equation],
-    terms: &mut [Term],
-) -> Result<Counts, Refusal>
-    ensures { elim result [
-      | Ok n ↦ Filled bytes.now n lines.old equations.old terms.old lines.new equations.new terms.new
-      | Err e ↦ computed (room_is lines.old equations.old terms.old) bytes.now ≡ refused_at e.fault e.line
-    ] }
-{
-    if bytes.len() > 32768 {
-        return Err(Refusal {
-            fault: Fault::TooLong,
-            line: 0,
-        });
-    }
-    let mut rest = bytes;
-    let mut line = 1;
-    let mut st = Sofar {
-        turn: 0,
-        variables: 0,
-        lines: 0,
-        equations: 0,
-        terms: 0,
-    };
-    loop {
-        match next_line(rest) {
-            Piece::Nothing => return Err(Refusal {
-                fault: Fault::WrongEnd,
-                line,
-            }),
-            Piece::Unfinished => return Err(Refusal {
-                fault: Fault::NoForm,
-                line,
-            }),
-            Piece::Line(text, more) => match read_line(st, text, lines, equations, terms) {
-                Turn::Refused(fault) => return Err(Refusal { fault, line }),
-                Turn::Starts(start) => {
-                    if more.len() > 0 {
-                        return Err(Refusal {
-                            fault: Fault::WrongEnd,
-                            line: line + 1,
-                        });
-                    }
-                    return Ok(Counts {
-                        variables: st.variables as usize,
-                        lines: st.lines,
-                        equations: st.equations,
-                        terms: st.terms,
-                        start: start as usize,
-                    });
-                }
-                Turn::Reads(next) => {
-                    st = next;
-                    rest = more;
-                    line += 1;
-                }
-            },
+    // One finished line: judged, and stored unless it names the start term, which is then the answer.
+    fn read_line(&mut self, text: &[u8]) -> Result<Option<u32>, Fault>
+        ensures { ReadsLine self.old text.now self.new result }
+    {
+        match self.judge_line(text)? {
+            Entry::Starts(n) => Ok(Some(n)),
+            entry => {
+                self.store(entry);
+                Ok(None)
+            }
         }
+    }
+
+    // How far each row is filled, with the start term.
+    fn counts(&self, start: u32) -> Counts
+        ensures { result ≡ counts_of self.now start }
+    {
+        Counts {
+            variables: self.variables as usize,
+            lines: self.line_count,
+            equations: self.equation_count,
+            terms: self.term_count,
+            start: start as usize,
+        }
+    }
+
+    // The lines of a file, up to the start line, behind which nothing may stand; a refusal may leave anything in the rows.
+    fn read(&mut self, bytes: &[u8]) -> Result<Counts, Refusal>
+        ensures { ReadsFile self.old bytes.now self.new result }
+    {
+        if bytes.len() > 32768 {
+            return Err(Refusal {
+                fault: Fault::TooLong,
+                line: 0,
+            });
+        }
+        let mut rest = bytes;
+        let mut line = 1;
+        while let Some((text, more)) = next_line(rest) {
+            let start = self
+                .read_line(text)
+                .map_err(|fault| Refusal { fault, line })?;
+            if let Some(start) = start {
+                if more.is_empty() {
+                    return Ok(self.counts(start));
+                }
+                return Err(Refusal {
+                    fault: Fault::WrongEnd,
+                    line: line + 1,
+                });
+            }
+            rest = more;
+            line += 1;
+        }
+        let fault = if rest.is_empty() {
+            Fault::WrongEnd
+        } else {
+            Fault::NoForm
+        };
+        Err(Refusal { fault, line })
     }
 }
 
@@ -109,7 +87,17 @@ pub fn read(
 ) -> Result<Counts, Refusal>
     ensures { IsRead bytes.now lines.old equations.old terms.old lines.new equations.new terms.new result }
 {
-    match try_read(bytes, lines, equations, terms) {
+    let mut filling = Filling {
+        section: None,
+        variables: 0,
+        lines,
+        line_count: 0,
+        equations,
+        equation_count: 0,
+        terms,
+        term_count: 0,
+    };
+    match filling.read(bytes) {
         Ok(n) => Ok(n),
         Err(e) => {
             clear(

@@ -1,88 +1,65 @@
 // Whether an entry stands already, and whether there is room for it.
-ghost use Rattle.std.specs.Prelude.{◌≡◌, ◌≤◌, false, length, take};
+ghost use Rattle.std.specs.Prelude.{◌≡◌};
 ghost use Rattle.processes.specs.Sameness.{same_equation, same_term};
 ghost use Rattle.transitions.specs.Listed.{names};
-ghost use Rattle.modelfile.specs.State.{Counted, sofar_is};
-ghost use Rattle.modelfile.specs.Tests.{any, said_before, full, too_many, start_of};
+ghost use Rattle.modelfile.specs.Tests.{any, said_before, full, too_many};
 
-use super::entries::{Entry, Sofar};
+use super::entries::Entry;
+use super::filling::Filling;
 use actions::lines::is_named;
 use processes::equations::Equation;
 use processes::terms::Term;
 use transitions::lines::JoinLine;
 
-fn is_line_before(lines: &[JoinLine], count: usize, l: JoinLine) -> bool
-    requires { count ≤ length lines.now }
-    ensures { result ≡ any (λ k. names k l.a l.b) (take count lines.now) }
+fn is_line_before(lines: &[JoinLine], l: JoinLine) -> bool
+    ensures { result ≡ any (λ k. names k l.a l.b) lines.now }
 {
-    is_named(&lines[0..count], l.a, l.b)
+    is_named(lines, l.a, l.b)
 }
 
-fn is_equation_before(equations: &[Equation], count: usize, e: Equation) -> bool
-    requires { count ≤ length equations.now }
-    ensures { result ≡ any (λ d. same_equation d e) (take count equations.now) }
+fn is_equation_before(equations: &[Equation], e: Equation) -> bool
+    ensures { result ≡ any (λ d. same_equation d e) equations.now }
 {
-    equations[0..count].contains(&e)
+    equations.contains(&e)
 }
 
-fn is_term_before(terms: &[Term], count: usize, t: Term) -> bool
-    requires { count ≤ length terms.now }
-    ensures { result ≡ any (λ s. same_term s t) (take count terms.now) }
+fn is_term_before(terms: &[Term], t: Term) -> bool
+    ensures { result ≡ any (λ s. same_term s t) terms.now }
 {
-    terms[0..count].contains(&t)
+    terms.contains(&t)
 }
 
-// Whether an earlier line said the same.
-pub(crate) fn is_said_before(
-    st: Sofar,
-    entry: Entry,
-    lines: &[JoinLine],
-    equations: &[Equation],
-    terms: &[Term],
-) -> bool
-    requires { Counted st lines.now equations.now terms.now }
-    ensures { result ≡ said_before (sofar_is st lines.now equations.now terms.now) entry }
-{
-    match entry {
-        Entry::Joins(l) => is_line_before(lines, st.lines, l),
-        Entry::Does(e) => is_equation_before(equations, st.equations, e),
-        Entry::Gives(t) => is_term_before(terms, st.terms, t),
-        Entry::Variables(_) => false,
-        Entry::Starts(_) => false,
-    }
-}
-
+// Whether the limit or the row leaves no room behind so many entries.
 fn is_full(limit: usize, room: usize, count: usize) -> bool
     ensures { result ≡ full limit room count }
 {
     limit <= count || room <= count
 }
 
-// Whether the entry is one too many, where so many may be stored.
-pub(crate) fn is_too_many(
-    st: Sofar,
-    entry: Entry,
-    lines: usize,
-    equations: usize,
-    terms: usize,
-) -> bool
-    ensures { result ≡ too_many (record { for_lines = lines; for_equations = equations; for_terms = terms }) st.lines st.equations st.terms entry }
-{
-    match entry {
-        Entry::Joins(_) => is_full(32, lines, st.lines),
-        Entry::Does(_) => is_full(1024, equations, st.equations),
-        Entry::Gives(_) => is_full(256, terms, st.terms),
-        Entry::Variables(_) => false,
-        Entry::Starts(_) => false,
-    }
-}
+impl Filling<'_> {
+    ghost use Rattle.modelfile.specs.State.{seen, room_of};
 
-// The start term that the entry names.
-pub(crate) fn start_of(entry: Entry) -> Option<u32>
-    ensures { start_of entry ≡ result }
-{
-    match entry {
-        Entry::Starts(n) => Some(n),
-        _ => None,
+    // Whether an earlier line said the same.
+    pub(crate) fn is_said_before(&self, entry: Entry) -> bool
+        ensures { result ≡ said_before (seen self.now) entry }
+    {
+        match entry {
+            Entry::Joins(l) => is_line_before(&self.lines[..self.line_count], l),
+            Entry::Does(e) => is_equation_before(&self.equations[..self.equation_count], e),
+            Entry::Gives(t) => is_term_before(&self.terms[..self.term_count], t),
+            Entry::Variables(_) | Entry::Starts(_) => false,
+        }
+    }
+
+    // Whether the entry is one too many, where so many may be stored.
+    pub(crate) fn is_too_many(&self, entry: Entry) -> bool
+        ensures { result ≡ too_many (room_of self.now) self.now.line_count self.now.equation_count self.now.term_count entry }
+    {
+        match entry {
+            Entry::Joins(_) => is_full(32, self.lines.len(), self.line_count),
+            Entry::Does(_) => is_full(1024, self.equations.len(), self.equation_count),
+            Entry::Gives(_) => is_full(256, self.terms.len(), self.term_count),
+            Entry::Variables(_) | Entry::Starts(_) => false,
+        }
     }
 }

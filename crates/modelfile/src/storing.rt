@@ -1,43 +1,39 @@
-// An entry put behind what stands in the tables.
-ghost use Rattle.modelfile.specs.State.{Counted, Small, Fits, Stored};
+// An entry put behind what stands in the rows.
+ghost use Rattle.modelfile.specs.State.{Small};
 
-use super::entries::{Entry, Sofar};
-use processes::equations::Equation;
-use processes::terms::Term;
-use transitions::lines::JoinLine;
+use super::entries::Entry;
+use super::filling::{Filling, Section};
 
-pub(crate) fn store(
-    st: Sofar,
-    entry: Entry,
-    lines: &mut [JoinLine],
-    equations: &mut [Equation],
-    terms: &mut [Term],
-) -> Sofar
-    requires { (Counted st lines.old equations.old terms.old) × ((Small entry) × (Fits st entry lines.old equations.old terms.old)) }
-    ensures { Stored st entry lines.old equations.old terms.old result lines.new equations.new terms.new }
-{
-    let mut next = st;
-    match entry {
-        Entry::Variables(v) => {
-            next.turn = 1;
-            next.variables = v;
+impl Filling<'_> {
+    ghost use Rattle.modelfile.specs.State.{Fits, Stores};
+
+    // The entry goes behind the last one of its row.
+    pub(crate) fn store(&mut self, entry: Entry)
+        requires small { Small entry }
+        requires fits { Fits self.old entry }
+        ensures { Stores self.old entry self.new }
+    {
+        match entry {
+            Entry::Variables(v) => {
+                self.section = Some(Section::Variables);
+                self.variables = v;
+            }
+            Entry::Joins(l) => {
+                self.section = Some(Section::Joins);
+                self.lines[self.line_count] = l;
+                self.line_count += 1;
+            }
+            Entry::Does(e) => {
+                self.section = Some(Section::Equations);
+                self.equations[self.equation_count] = e;
+                self.equation_count += 1;
+            }
+            Entry::Gives(t) => {
+                self.section = Some(Section::Terms);
+                self.terms[self.term_count] = t;
+                self.term_count += 1;
+            }
+            Entry::Starts(_) => self.section = Some(Section::Start),
         }
-        Entry::Joins(l) => {
-            lines[st.lines] = l;
-            next.turn = 2;
-            next.lines = st.lines + 1;
-        }
-        Entry::Does(e) => {
-            equations[st.equations] = e;
-            next.turn = 3;
-            next.equations = st.equations + 1;
-        }
-        Entry::Gives(t) => {
-            terms[st.terms] = t;
-            next.turn = 4;
-            next.terms = st.terms + 1;
-        }
-        Entry::Starts(_n) => next.turn = 5,
     }
-    next
 }

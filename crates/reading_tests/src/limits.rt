@@ -1,6 +1,7 @@
 // The limits on both sides: files made to a limit are read, and one line or byte more is refused.
 use crate::trying::{outcome, short_outcome};
 use std::alloc::{AllocError, Global};
+use std::fmt::Write;
 use std::test::Fail;
 
 // A file with n communication lines.
@@ -8,7 +9,7 @@ fn with_lines(heap: Global, n: u16) -> Result<String, AllocError> {
     let mut text = String::new(heap);
     text.push_str("m,0\n")?;
     for i in 0..n {
-        text.push_str(&format!(in heap; "c,{},33,63\n", u32::from(i) + 1)?)?;
+        writeln!(text, "c,{},33,63", u32::from(i) + 1)?;
     }
     text.push_str("t,1,d,0,0\nz,1\n")?;
     Ok(text)
@@ -19,7 +20,7 @@ fn with_equations(heap: Global, n: u16) -> Result<String, AllocError> {
     let mut text = String::new(heap);
     text.push_str("m,256\n")?;
     for i in 0..n {
-        text.push_str(&format!(in heap; "f,{},{}\n", i % 256, i / 256)?)?;
+        writeln!(text, "f,{},{}", i % 256, i / 256)?;
     }
     text.push_str("t,1,d,0,0\nz,1\n")?;
     Ok(text)
@@ -31,7 +32,7 @@ fn with_terms(heap: Global, n: u16) -> Result<String, AllocError> {
     text.push_str("m,0\nt,1,d,0,0\n")?;
     for i in 0..n {
         let k = u32::from(i) + 1;
-        text.push_str(&format!(in heap; "t,{},.,{},{}\n", k + 1, k, k)?)?;
+        writeln!(text, "t,{},.,{k},{k}", k + 1)?;
     }
     text.push_str("z,1\n")?;
     Ok(text)
@@ -39,11 +40,7 @@ fn with_terms(heap: Global, n: u16) -> Result<String, AllocError> {
 
 // n bytes without a line feed.
 fn bytes(heap: Global, n: u16) -> Result<Vec<u8>, AllocError> {
-    let mut text = Vec::new(heap);
-    for _i in 0..n {
-        text.push(b'x')?;
-    }
-    Ok(text)
+    Ok(vec![in heap; b'x'; usize::from(n)]?)
 }
 
 #[test]

@@ -2,7 +2,6 @@
 use modelfile::reading::read;
 use processes::equations::Equation;
 use processes::terms::Term;
-use rows::Same;
 use transitions::lines::JoinLine;
 
 // Whether the text leaves these entries in rows of one entry that held others.
@@ -16,7 +15,7 @@ fn leaves(text: &[u8], joint: u8, equation: Equation, term: Term) -> bool {
     let mut terms = [Term::Action(9); 1];
     let _ = read(text, &mut lines, &mut equations, &mut terms);
     let line = lines[0];
-    line.joint == joint && equations[0].is_same(&equation) && terms[0].is_same(&term)
+    line.joint == joint && equations[0] == equation && terms[0] == term
 }
 
 #[test]

@@ -1,44 +1,69 @@
--- Where the first stop stands, the line or field is cut.
-use Rattle.std.proofs.Common.{◌≡◌, ℕ, zero, suc, ◌<◌, Bool, true, false, cond, eqb, List, [], ◌∷◌, length, get_or, take, drop, refl, ap, ◌∙◌, arith}
-use Rattle.std.proofs.lemmas.Bool.{eq-eqb, ne_eqb, cond-true, cond-false}
-use Rattle.tokens.specs.Lines.{whole, cut, grow, raw_lines, on_first, fields}
+-- Where the separator first stands, a text is cut.
+use Rattle.std.proofs.Common.{◌≡◌, ℕ, suc, ◌+◌, ◌<◌, Bool, true, false, cond, eqb, ltb, List, [], ◌∷◌, ◌++◌, length, get_or, take, drop, Some, None, Option, Bor, refl, sym, ap, ◌∙◌, add-one, drop-cons, arith}
+use Rattle.std.specs.List.{All, position, position_or_len}
+use Rattle.std.specs.Option.{IfSome, IfNone}
+use Rattle.std.proofs.lemmas.Bool.{eqb-true, ltb-false, cond-false}
+use Rattle.std.proofs.lemmas.List.{take-append-drop, get_or-take, length-take-le}
+use Rattle.std.proofs.lemmas.List.Quantifiers.{position-Some}
+use Rattle.std.proofs.lemmas.List.Splits.{slice_split_none, slice_split_at, length-slice_split}
+use Rattle.std.proofs.lemmas.List.Sums.{fails_before_first}
+use Rattle.tokens.specs.Lines.{whole, cut, grow, raw_lines, last_piece, fields}
 
-abbrev Free : ℕ → ℕ → List ℕ → Type 0
-Free stop e xs = (k : ℕ) → k < e → get_or xs k 0 ≡ stop → ⊥
+-- The two parts of a text, and the separator between them.
+pub cut_at : (s i : ℕ) (xs : List ℕ) → position (λ b. eqb b s) xs ≡ Some i → xs ≡ take i xs ++ (s ∷ drop (i + 1) xs)
+cut_at s i xs e =
+    let h = position-Some (λ b. eqb b s) xs i 0 e in
+    let l : i < length xs = h.0 in
+    sym (take-append-drop i xs) ∙ ap (λ z. take i xs ++ z) (rw (drop-cons xs i 0, eqb-true (get_or xs i 0) s h.1, ← add-one i) refl)
 
-later : (stop e x : ℕ) (xs : List ℕ) → Free stop (suc e) (x ∷ xs) → Free stop e xs
-later stop e x xs f k h = f (suc k) (omega arith)
+pub lacks_before : (s i : ℕ) (xs : List ℕ) → position (λ b. eqb b s) xs ≡ Some i → All (λ b. eqb b s ≡ false) (take i xs)
+lacks_before s i xs e k d l =
+    let h = position-Some (λ b. eqb b s) xs i d e in
+    let n : length (take i xs) ≡ i = length-take-le i xs (omega arith) in
+    rw (get_or-take i xs k d (omega arith)) (h.2 k (omega arith))
 
-first : (stop e x : ℕ) (xs : List ℕ) → Free stop (suc e) (x ∷ xs) → eqb x stop ≡ false
-first stop e x xs f = ne_eqb x stop (f 0 (omega arith))
+-- Where it stands nowhere, no place holds it.
+pub nowhere : (s : ℕ) (xs : List ℕ) → position (λ b. eqb b s) xs ≡ None → All (λ b. eqb b s ≡ false) xs
+nowhere s xs e k d l = fails_before_first (λ b. eqb b s) xs k d (go (ltb n (length xs)) refl e)
+  where
+    n : ℕ
+    n = position_or_len (λ b. eqb b s) xs
 
-pub fields_last : (xs : List ℕ) → Free 44 (length xs) xs → fields xs ≡ xs ∷ []
-fields_last [] f = refl
-fields_last (x ∷ xs) f = cond-false (eqb x 44) ([] ∷ fields xs) (on_first x (fields xs)) (first 44 (length xs) x xs f) ∙ ap (on_first x) (fields_last xs (later 44 (length xs) x xs f))
+    go : (b : Bool) → ltb n (length xs) ≡ b → cond b (Some n) None ≡ None → k < n
+    go true f h = cc
+    go false f h = omega (arith, ltb-false n (length xs) f)
 
-pub fields_more : (e : ℕ) (xs : List ℕ) → e < length xs → Free 44 e xs → get_or xs e 0 ≡ 44 → fields xs ≡ take e xs ∷ fields (drop (suc e) xs)
-fields_more e [] l f h = absurd (omega arith)
-fields_more zero (x ∷ xs) l f h = cond-true (eqb x 44) ([] ∷ fields xs) (on_first x (fields xs)) (eq-eqb x 44 h)
-fields_more (suc e) (x ∷ xs) l f h = cond-false (eqb x 44) ([] ∷ fields xs) (on_first x (fields xs)) (first 44 e x xs f) ∙ ap (on_first x) (fields_more e xs (omega arith) (later 44 e x xs f) h)
+-- A line ends at the first line feed.
+lines_at : (xs ys : List ℕ) → All (λ b. eqb b 10 ≡ false) xs → raw_lines (xs ++ (10 ∷ ys)) ≡ whole xs ∷ raw_lines ys
+lines_at [] ys h = refl
+lines_at (x ∷ xs) ys h = cond-false (eqb x 10) (whole [] ∷ raw_lines (xs ++ (10 ∷ ys))) (grow x (raw_lines (xs ++ (10 ∷ ys)))) (h 0 0 (omega arith)) ∙ ap (grow x) (lines_at xs ys (λ k d l. h (suc k) d (omega arith)))
 
-pub lines_cut : (x : ℕ) (xs : List ℕ) → Free 10 (suc (length xs)) (x ∷ xs) → raw_lines (x ∷ xs) ≡ cut (x ∷ xs) ∷ []
-lines_cut x [] f = cond-false (eqb x 10) (whole [] ∷ []) (cut (x ∷ []) ∷ []) (first 10 0 x [] f)
-lines_cut x (y ∷ xs) f = cond-false (eqb x 10) (whole [] ∷ raw_lines (y ∷ xs)) (grow x (raw_lines (y ∷ xs))) (first 10 (suc (length xs)) x (y ∷ xs) f) ∙ ap (grow x) (lines_cut y xs (later 10 (suc (length xs)) x (y ∷ xs) f))
+lines_last : (xs : List ℕ) → All (λ b. eqb b 10 ≡ false) xs → raw_lines xs ≡ last_piece xs
+lines_last [] h = refl
+lines_last (x ∷ []) h = cond-false (eqb x 10) (whole [] ∷ []) (cut (x ∷ []) ∷ []) (h 0 0 (omega arith))
+lines_last (x ∷ y ∷ xs) h = cond-false (eqb x 10) (whole [] ∷ raw_lines (y ∷ xs)) (grow x (raw_lines (y ∷ xs))) (h 0 0 (omega arith)) ∙ ap (grow x) (lines_last (y ∷ xs) (λ k d l. h (suc k) d (omega arith)))
 
-pub lines_whole : (e : ℕ) (xs : List ℕ) → e < length xs → Free 10 e xs → get_or xs e 0 ≡ 10 → raw_lines xs ≡ whole (take e xs) ∷ raw_lines (drop (suc e) xs)
-lines_whole e [] l f h = absurd (omega arith)
-lines_whole zero (x ∷ xs) l f h = cond-true (eqb x 10) (whole [] ∷ raw_lines xs) (grow x (raw_lines xs)) (eq-eqb x 10 h)
-lines_whole (suc e) (x ∷ xs) l f h = cond-false (eqb x 10) (whole [] ∷ raw_lines xs) (grow x (raw_lines xs)) (first 10 e x xs f) ∙ ap (grow x) (lines_whole e xs (omega arith) (later 10 e x xs f) h)
+-- What `split_once` answers, as lines and as fields.
+module _ (bs : List ℕ) where
+  pub line_is : (r : Option (Bor (List ℕ) × Bor (List ℕ))) → IfSome r (λ p. bs ≡ p.0.now ++ (10 ∷ p.1.now)) → IfSome r (λ p. All (λ b. eqb b 10 ≡ false) p.0.now) → IfSome r (λ p. raw_lines bs ≡ whole p.0.now ∷ raw_lines p.1.now)
+  line_is None e f = tt
+  line_is (Some p) e f = ap raw_lines e ∙ lines_at p.0.now p.1.now f
 
-pub lines_cut' : (xs : List ℕ) → 0 < length xs → Free 10 (length xs) xs → raw_lines xs ≡ cut xs ∷ []
-lines_cut' [] l f = absurd (omega arith)
-lines_cut' (x ∷ xs) l f = lines_cut x xs f
+  pub last_is : {A : Type 0} (r : Option A) → IfNone r (All (λ b. eqb b 10 ≡ false) bs) → IfNone r (raw_lines bs ≡ last_piece bs)
+  last_is None h = lines_last bs h
+  last_is (Some p) h = tt
+
+  pub field_is : (r : Option (Bor (List ℕ) × Bor (List ℕ))) → IfSome r (λ p. bs ≡ p.0.now ++ (44 ∷ p.1.now)) → IfSome r (λ p. All (λ b. eqb b 44 ≡ false) p.0.now) → IfSome r (λ p. fields bs ≡ p.0.now ∷ fields p.1.now)
+  field_is None e f = tt
+  field_is (Some p) e f = ap fields e ∙ slice_split_at (λ b. eqb b 44) p.0.now 44 p.1.now f refl
+
+  pub last_field_is : {A : Type 0} (r : Option A) → IfNone r (All (λ b. eqb b 44 ≡ false) bs) → IfNone r (fields bs ≡ bs ∷ [])
+  last_field_is None h = slice_split_none (λ b. eqb b 44) bs h
+  last_field_is (Some p) h = tt
 
 pub fields_some : (xs : List ℕ) → 0 < length (fields xs)
-fields_some [] = omega arith
-fields_some (x ∷ xs) = go (eqb x 44) (fields xs) (fields_some xs)
-  where
-    go : (b : Bool) (fs : List (List ℕ)) → 0 < length fs → 0 < length (cond b ([] ∷ fs) (on_first x fs))
-    go true fs h = omega arith
-    go false [] h = absurd (omega arith)
-    go false (f ∷ fs) h = omega arith
+fields_some xs = omega (arith, length-slice_split (λ b. eqb b 44) xs)
+
+pub more_is : (r : Option (Bor (List ℕ) × Bor (List ℕ))) → IfSome r (λ p. 0 < length (fields p.1.now))
+more_is None = tt
+more_is (Some p) = fields_some p.1.now

@@ -1,16 +1,9 @@
 -- Digits one by one: what is left gives the whole.
-use Rattle.std.proofs.Common.{◌≡◌, ℕ, ◌+◌, ◌-◌, ◌*◌, ◌^◌, ◌<◌, ◌≤◌, true, false, ◌&&◌, leb, ◌⊎◌, List, length, get_or, drop, Some, None, Option, sym, ap, ◌∙◌, inl, inr, pow-suc, add-one, arith}
+use Rattle.std.proofs.Common.{◌≡◌, ℕ, ◌+◌, ◌-◌, ◌*◌, ◌^◌, ◌<◌, ◌≤◌, true, false, ◌&&◌, List, length, get_or, drop, Some, None, Option, sym, ap, ◌∙◌, pow-suc, add-one, arith}
 use native.Mathlib.Nat.{pow-le-pow_right}
-use Rattle.std.proofs.lemmas.Bool.{lt-leb, le-leb, and_left, and_right, and_from}
+use Rattle.std.proofs.lemmas.Bool.{and_left}
 use Rattle.std.proofs.lemmas.List.{at_drop_more}
 use Rattle.tokens.specs.Numbers.{is_digit, all_digits, value_on, hex_value, hex_on}
-
-pub no_digit : (b : ℕ) → (b < 48) ⊎ ((48 ≤ b) × (57 < b)) → is_digit b ≡ false
-no_digit b (inl h) = and_left (leb 48 b) (leb b 57) (lt-leb 48 b h)
-no_digit b (inr h) = and_right (leb 48 b) (leb b 57) (lt-leb b 57 h.1)
-
-pub a_digit : (b : ℕ) → 48 ≤ b → b ≤ 57 → is_digit b ≡ true
-a_digit b h k = and_from (leb 48 b) (leb b 57) (le-leb 48 b h) (le-leb b 57 k)
 
 pub digits_bad : (xs : List ℕ) (i : ℕ) → i < length xs → all_digits (drop i xs) ≡ all_digits xs → is_digit (get_or xs i 0) ≡ false → all_digits xs ≡ false
 digits_bad xs i l e h = sym e ∙ at_drop_more all_digits xs i 0 l ∙ and_left (is_digit (get_or xs i 0)) (all_digits (drop (i + 1) xs)) h

@@ -1,5 +1,6 @@
 -- The lines of a text, and the fields of a line.
-use Rattle.std.specs.Prelude.{◌≡◌, ℕ, ◌<◌, ◌≤◌, cond, List, [], ◌∷◌, length, ◌==◌, ◌≢◌, slice_index}
+use Rattle.std.specs.Prelude.{ℕ, cond, List, [], ◌∷◌, ◌==◌}
+use Rattle.std.specs.List.{slice_split}
 
 -- A line is whole if a line feed (10) ends it. Only a last piece can be cut.
 pub data Raw : Type 0 where
@@ -15,17 +16,11 @@ abbrev pub raw_lines : List ℕ → List Raw
 raw_lines [] = []
 raw_lines (b ∷ bs) = cond (b == 10) (whole [] ∷ raw_lines bs) (grow b (raw_lines bs))
 
+-- What the bytes are where there is no line feed in them: a cut piece, or nothing.
+abbrev pub last_piece : List ℕ → List Raw
+last_piece [] = []
+last_piece (b ∷ bs) = cut (b ∷ bs) ∷ []
+
 -- The fields stand between commas (44); an empty one counts.
-abbrev pub on_first : ℕ → List (List ℕ) → List (List ℕ)
-on_first b [] = (b ∷ []) ∷ []
-on_first b (f ∷ fs) = (b ∷ f) ∷ fs
-
 abbrev pub fields : List ℕ → List (List ℕ)
-fields [] = [] ∷ []
-fields (b ∷ bs) = cond (b == 44) ([] ∷ fields bs) (on_first b (fields bs))
-
--- e is the first place that holds the stop, or the end.
-pub record Stops (bs : List ℕ) (stop e : ℕ) : Type 0 where
-  pub within : e ≤ length bs
-  pub inside : (k : ℕ) → k < e → slice_index bs k ≢ stop
-  pub stops : e < length bs → slice_index bs e ≡ stop
+fields bs = slice_split (λ b. b == 44) bs

@@ -6,7 +6,7 @@ use Rattle.tokens.specs.declared.token.Kind.{Kind}
 use Rattle.tokens.specs.declared.token.Kind.TheVariants.{Action, Deadlock, Variable, Choice, Sequence, Merge, LeftMerge, CommMerge, Block, Hide}
 use Rattle.tokens.specs.declared.token.Token.{Token}
 use Rattle.tokens.specs.declared.token.Token.TheVariants.{Number, Set, Sign}
-use Rattle.tokens.specs.Forms.{Shape, variables, joins, becomes, ends, gives, starts}
+use Rattle.tokens.specs.Forms.{kind_in, Shape, variables, joins, becomes, ends, gives, starts}
 use Rattle.tokens.specs.Numbers.{number, set}
 
 -- The code's answer, read by f, is the definition's.
@@ -25,6 +25,12 @@ abbrev pub value_of : Token → Option ℕ
 value_of (Number r) = number r.now
 value_of (Set r) = set r.now
 value_of (Sign r) = None
+
+-- The kind that a sign tells.
+abbrev pub kind_told : Token → Option Kind
+kind_told (Number r) = None
+kind_told (Set r) = None
+kind_told (Sign r) = kind_in r.now
 
 abbrev pub shape_of : Form → Shape
 shape_of (Variables v) = variables (text v)

@@ -1,108 +1,72 @@
 // Lines cut at their line feeds, and fields cut at their commas.
-ghost use Rattle.std.specs.Prelude.{◌≡◌, ◌<◌, [], ◌∷◌, length, Some, None, ◌≢◌};
-ghost use Rattle.tokens.specs.Lines.{Stops, raw_lines, fields, whole, cut};
-ghost use Rattle.tokens.specs.declared.cutting.Piece.TheVariants.{Line, Unfinished, Nothing};
-ghost use Rattle.tokens.specs.declared.cutting.Field.TheVariants.{More, Last};
+ghost use Rattle.std.specs.Prelude.{◌≡◌, ◌<◌, ◌∷◌, ◌++◌, [], false, length, ◌==◌, ◌≢◌, position, All, IfSome, IfNone};
+ghost use Rattle.tokens.specs.Lines.{raw_lines, last_piece, fields, whole};
 
-// Where the stop first stands, or the end.
-fn end_of(bytes: &[u8], stop: u8) -> usize
-    ensures { Stops bytes.now stop result }
+// Where the byte first stands.
+fn place_of(bytes: &[u8], byte: u8) -> Option<usize>
+    ensures { result ≡ position (λ b. b == byte) bytes.now }
 {
-    let mut e = 0;
-    while e < bytes.len() && bytes[e] != stop {
-        e += 1;
-    }
-    e
+    bytes.iter().position(|&b| b == byte)
 }
 
-// A finished line and what follows it, a last piece without a line feed, or nothing.
-#[derive(Clone, Copy)]
-pub enum Piece<'a> {
-    Line(&'a [u8], &'a [u8]),
-    Unfinished,
-    Nothing,
-}
-
-// The next line, and what follows its line feed.
-pub fn next_line<'a>(bytes: &'a [u8]) -> Piece<'a>
-    ensures { elim result [
-      | Line line rest ↦ (raw_lines bytes.now ≡ whole line.now ∷ raw_lines rest.now) × (length rest.now < length bytes.now)
-      | Unfinished ↦ raw_lines bytes.now ≡ cut bytes.now ∷ []
-      | Nothing ↦ raw_lines bytes.now ≡ []
-    ] }
+// What stands before the first separator, and what follows it.
+fn split_once(bytes: &[u8], separator: u8) -> Option<(&[u8], &[u8])>
+    ensures parts { IfSome result (λ p. bytes.now ≡ p.0.now ++ separator ∷ p.1.now) }
+    ensures first { IfSome result (λ p. All (λ b. (b == separator) ≡ false) p.0.now) }
+    ensures none { IfNone result (All (λ b. (b == separator) ≡ false) bytes.now) }
 {
-    if bytes.len() == 0 {
-        return Piece::Nothing;
-    }
-    let e = end_of(bytes, b'\n');
-    if e == bytes.len() {
-        return Piece::Unfinished;
-    }
-    Piece::Line(&bytes[0..e], &bytes[e + 1..])
+    let at = place_of(bytes, separator)?;
+    Some((&bytes[..at], &bytes[at + 1..]))
 }
 
-// A field with more behind its comma, or the last field of a line.
-#[derive(Clone, Copy)]
-pub(crate) enum Field<'a> {
-    More(&'a [u8], &'a [u8]),
-    Last(&'a [u8]),
-}
-
-// The next field, and what follows its comma.
-pub(crate) fn next_field<'a>(line: &'a [u8]) -> Field<'a>
-    ensures { elim result [
-      | More f rest ↦ (fields line.now ≡ f.now ∷ fields rest.now) × (0 < length (fields rest.now))
-      | Last f ↦ fields line.now ≡ f.now ∷ []
-    ] }
+// The next line, and what follows its line feed. Where there is no line feed, the bytes are the last piece of a text, or nothing.
+pub fn next_line(bytes: &[u8]) -> Option<(&[u8], &[u8])>
+    ensures line { IfSome result (λ p. raw_lines bytes.now ≡ whole p.0.now ∷ raw_lines p.1.now) }
+    ensures shorter { IfSome result (λ p. length p.1.now < length bytes.now) }
+    ensures last { IfNone result (raw_lines bytes.now ≡ last_piece bytes.now) }
 {
-    let e = end_of(line, b',');
-    if e == line.len() {
-        return Field::Last(line);
-    }
-    Field::More(&line[0..e], &line[e + 1..])
+    split_once(bytes, b'\n')
+}
+
+// The first field, and what follows its comma.
+pub(crate) fn next_field(line: &[u8]) -> Option<(&[u8], &[u8])>
+    ensures field { IfSome result (λ p. fields line.now ≡ p.0.now ∷ fields p.1.now) }
+    ensures more { IfSome result (λ p. 0 < length (fields p.1.now)) }
+    ensures last { IfNone result (fields line.now ≡ line.now ∷ []) }
+{
+    split_once(line, b',')
 }
 
 // The only field.
-pub(crate) fn one_field<'a>(line: &'a [u8]) -> Option<&'a [u8]>
+pub(crate) fn one_field(line: &[u8]) -> Option<&[u8]>
     ensures { elim result [
       | Some f ↦ fields line.now ≡ f.now ∷ []
-      | None ↦ (length (fields line.now) ≢ 1)
+      | None ↦ length (fields line.now) ≢ 1
     ] }
 {
-    match next_field(line) {
-        Field::Last(f) => Some(f),
-        Field::More(_, _) => None,
-    }
+    next_field(line).is_none().then_some(line)
 }
 
 // The two fields.
-pub(crate) fn two_fields<'a>(line: &'a [u8]) -> Option<(&'a [u8], &'a [u8])>
+pub(crate) fn two_fields(line: &[u8]) -> Option<(&[u8], &[u8])>
     ensures { elim result [
       | Some p ↦ fields line.now ≡ p.0.now ∷ p.1.now ∷ []
-      | None ↦ (length (fields line.now) ≢ 2)
+      | None ↦ length (fields line.now) ≢ 2
     ] }
 {
-    match next_field(line) {
-        Field::Last(_) => None,
-        Field::More(f, rest) => match one_field(rest) {
-            Some(g) => Some((f, g)),
-            None => None,
-        },
-    }
+    let (f, rest) = next_field(line)?;
+    Some((f, one_field(rest)?))
 }
 
 // The three fields.
-pub(crate) fn three_fields<'a>(line: &'a [u8]) -> Option<(&'a [u8], &'a [u8], &'a [u8])>
+// Kept: one function for any count, `fields_of::<N>` with the result `[&[u8]; N]`, gets no proof: an array of references has none yet.
+pub(crate) fn three_fields(line: &[u8]) -> Option<(&[u8], &[u8], &[u8])>
     ensures { elim result [
       | Some p ↦ fields line.now ≡ p.0.now ∷ p.1.now ∷ p.2.now ∷ []
-      | None ↦ (length (fields line.now) ≢ 3)
+      | None ↦ length (fields line.now) ≢ 3
     ] }
 {
-    match next_field(line) {
-        Field::Last(_) => None,
-        Field::More(f, rest) => match two_fields(rest) {
-            Some((g, h)) => Some((f, g, h)),
-            None => None,
-        },
-    }
+    let (f, rest) = next_field(line)?;
+    let (g, h) = two_fields(rest)?;
+    Some((f, g, h))
 }

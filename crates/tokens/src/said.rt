@@ -1,7 +1,7 @@
 use super::token::Kind;
 
 // What a line says, before any limit is looked at.
-#[derive(Clone, Copy)]
+#[derive(Clone, Copy, Debug, PartialEq, Eq)]
 pub enum Said {
     Variables(u32),
     Joins(u32, u32, u32),

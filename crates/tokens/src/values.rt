@@ -1,5 +1,5 @@
 // The numbers and sets that tokens hold.
-ghost use Rattle.std.specs.Prelude.{◌≡◌, ◌<◌, ◌≤◌, true, false, length, Some, None};
+ghost use Rattle.std.specs.Prelude.{◌≡◌, ◌<◌, ◌≤◌, true, false, length, Some, None, IfSome};
 ghost use Rattle.tokens.specs.Numbers.{plain, all_digits, value_on, number, hex_value, hex_on, set};
 ghost use Rattle.tokens.specs.Forms.{values};
 ghost use Rattle.tokens.specs.Marks.{value_of, shape_of, Marked, IsNumber};
@@ -28,11 +28,10 @@ fn digits_of(bytes: &[u8]) -> Option<u32>
 {
     let mut v = 0u32;
     for b in bytes {
-        let d = *b;
-        if d < b'0' || d > b'9' {
+        if !b.is_ascii_digit() {
             return None;
         }
-        v = 10 * v + (d - b'0') as u32;
+        v = 10 * v + u32::from(b - b'0');
     }
     Some(v)
 }
@@ -48,11 +47,12 @@ fn number_of(bytes: &[u8]) -> Option<u32>
 }
 
 fn hex_digit(b: u8) -> Option<u8>
-    ensures { (hex_value b ≡ result) × (elim result [ Some d ↦ d < 16 | None ↦ Unit {0} ]) }
+    ensures is { hex_value b ≡ result }
+    ensures small { IfSome result (λ d. d < 16) }
 {
     match b {
         b'0'..=b'9' => Some(b - b'0'),
-        b'a'..=b'f' => Some(b - 87),
+        b'a'..=b'f' => Some(b - b'a' + 10),
         _ => None,
     }
 }
@@ -64,12 +64,7 @@ fn hex_of(bytes: &[u8]) -> Option<u64>
 {
     let mut v = 0u64;
     for b in bytes {
-        match hex_digit(*b) {
-            Some(d) => {
-                v = 16 * v + d as u64;
-            }
-            None => return None,
-        }
+        v = 16 * v + u64::from(hex_digit(*b)?);
     }
     Some(v)
 }
@@ -90,8 +85,7 @@ fn number_in(t: Token) -> Option<u32>
 {
     match t {
         Token::Number(bytes) => number_of(bytes),
-        Token::Set(_) => None,
-        Token::Sign(_) => None,
+        Token::Set(_) | Token::Sign(_) => None,
     }
 }
 
@@ -100,10 +94,7 @@ fn value_in(t: Token) -> Option<u64>
     ensures { value_of t.entry ≡ result }
 {
     match t {
-        Token::Number(bytes) => match number_of(bytes) {
-            Some(v) => Some(v as u64),
-            None => None,
-        },
+        Token::Number(bytes) => number_of(bytes).map(u64::from),
         Token::Set(bytes) => set_of(bytes),
         Token::Sign(_) => None,
     }

@@ -1,46 +1,16 @@
 // Why a file is refused, in a plain sentence on standard error.
 use modelfile::answers::Refusal;
-use modelfile::faults::Fault;
 use std::io;
 use std::io::Write;
-use tokens::cutting::{Piece, next_line};
-
-fn reason(fault: Fault) -> &'static str {
-    match fault {
-        Fault::TooLong => "the file has over 32,768 bytes",
-        Fault::NoForm =>
-            "the line has no line feed, an unknown letter or sign, or a wrong count of fields",
-        Fault::NoValue => "a field is not the number or the set that belongs there",
-        Fault::OutOfTurn =>
-            "the line is out of turn: m comes first, then c, then e and f, then t, and z last",
-        Fault::OverLimit =>
-            "a count, an action or a variable is over its limit, or a field without a use is not 0",
-        Fault::WrongNumber =>
-            "the number of the term is not the next one, or it names a term that was not given before",
-        Fault::SilentUsed => "action 0 stands in a communication or in a set",
-        Fault::SaidBefore => "an earlier line says this already",
-        Fault::TooMany => "there are more lines of this kind than the limit",
-        Fault::NotAssociative => "the communication of the c lines is not associative",
-        Fault::SilentRing => "silent e lines lead from a variable back to itself",
-        Fault::WrongEnd => "the file ends without its z line, or goes on after it",
-    }
-}
+use tokens::cutting::next_line;
 
 // The line of that number, counted from 1, or what is left of the file there.
 fn line_at(bytes: &[u8], number: usize) -> &[u8] {
     let mut rest = bytes;
     for _ in 1..number {
-        rest = match next_line(rest) {
-            Piece::Line(_, more) => more,
-            Piece::Unfinished => rest,
-            Piece::Nothing => rest,
-        };
+        rest = next_line(rest).map_or(rest, |(_, more)| more);
     }
-    match next_line(rest) {
-        Piece::Line(text, _) => text,
-        Piece::Unfinished => rest,
-        Piece::Nothing => rest,
-    }
+    next_line(rest).map_or(rest, |(text, _)| text)
 }
 
 // The first bytes of a line; those that are no plain characters stay question marks.
@@ -62,7 +32,7 @@ fn write_line(rt: &HostRuntime, line: &[u8]) -> io::Result<()> {
 // One sentence on why the file is refused, and the line at fault.
 pub fn explain(rt: &HostRuntime, bytes: &[u8], refusal: Refusal) -> io::Result<()> {
     let number = refusal.fault.number();
-    let why = reason(refusal.fault);
+    let why = refusal.fault;
     if refusal.line == 0 {
         return eprintln!(rt; "unfold: model.txt is refused with {number}: {why}.");
     }

@@ -1,8 +1,14 @@
-use Rattle.std.proofs.Common.{◌≡◌, ℕ, ◌≤◌, List, length, sym, ap, ◌∙◌, subst, arith}
+use Rattle.std.proofs.Common.{◌≡◌, ℕ, ◌≤◌, List, length, sym, refl, ap, ◌∙◌, subst, arith, rules}
+use Rattle.processes.specs.declared.equations.Equation.{Equation}
+use Rattle.processes.specs.declared.terms.Term.{Term}
+use Rattle.transitions.specs.declared.lines.JoinLine.{JoinLine}
+use Rattle.modelfile.specs.declared.answers.Counts.{Counts}
 use Rattle.modelfile.specs.declared.faults.Fault.{Fault}
 use Rattle.modelfile.specs.Accepted.{Room}
 use Rattle.modelfile.specs.Computed.{reading, read, refused_at}
-use Rattle.modelfile.specs.Promise.{Holds, room_is, tables_is}
+use Rattle.modelfile.specs.Promise.{Holds, IsModel, room_is, tables_is}
+use Rattle.modelfile.specs.State.{Filled}
+use Rattle.modelfile.proofs.Loops.{is_filled}
 use Rattle.modelfile.specs.Tables.{Tables}
 use Rattle.modelfile.proofs.Backs.{reads_back}
 use Rattle.modelfile.proofs.Refusing.{refuses_first}
@@ -18,13 +24,13 @@ only R bytes s t e h = let f : read t ≡ read s = sym (held R bytes t h) ∙ e 
 apart : (R : Room) (bytes : List ℕ) (t : Tables) (k : Fault) (i : ℕ) → reading R bytes ≡ refused_at k i → Holds R bytes t → ⊥
 apart R bytes t k i e h = let f = held R bytes t h in let z : ◌≡◌ {A = ℕ} 0 1 = cc in omega arith
 
-pub returns-in-Ok : goal.returns-in-Ok
-returns-in-Ok c =
-    let f = c.in-Ok.ensures in
-    let R : Room = room_is c.args.lines.now c.args.equations.now c.args.terms.now in
+-- The reading told of as what the file holds.
+model : {bytes : List ℕ} {n : Counts} {ls ls' : List JoinLine} {es es' : List Equation} {ts ts' : List Term} → Filled bytes n ls es ts ls' es' ts' → IsModel bytes ls es ts ls' es' ts' n
+model {bytes} {n} {ls} {ls'} {es} {es'} {ts} {ts'} f =
+    let R : Room = room_is ls es ts in
     record {
-      holds = reads_sound R c.args.bytes.now (tables_is c.in-Ok.n c.try_read.new.lines c.try_read.new.equations c.try_read.new.terms) f.reads;
-      no_other = λ t h. only R c.args.bytes.now (tables_is c.in-Ok.n c.try_read.new.lines c.try_read.new.equations c.try_read.new.terms) t f.reads h;
+      holds = reads_sound R bytes (tables_is n ls' es' ts') f.reads;
+      no_other = λ t h. only R bytes (tables_is n ls' es' ts') t f.reads h;
       lines_in = f.lines_in;
       equations_in = f.equations_in;
       terms_in = f.terms_in;
@@ -33,9 +39,17 @@ returns-in-Ok c =
       past_terms = f.past_terms;
     }
 
+pub returns-in-Ok : goal.returns-in-Ok
+returns-in-Ok c =
+    let h = c.in-Ok.ensures in
+    let ls = sym h.lines.same in
+    let es = sym h.equations.same in
+    let ts = sym h.terms.same in
+    model (is_filled refl h (search rules) (search rules) (search rules))
+
 pub returns-in-Err : goal.returns-in-Err
 returns-in-Err c =
-    let f = c.in-Err.ensures in
+    let f = c.in-Err.ensures.reads in
     let R : Room = room_is c.args.lines.now c.args.equations.now c.args.terms.now in
     record {
       refused = refuses_first R c.args.bytes.now c.in-Err.e.fault c.in-Err.e.line f;

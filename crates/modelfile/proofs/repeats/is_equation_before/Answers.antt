@@ -1,14 +1,9 @@
-use Rattle.std.proofs.Common.{take, ap, ◌∙◌, rules}
-use native.Mathlib.Nat.{sub-zero}
+use Rattle.std.proofs.Common.{◌∙◌, rules}
 use Rattle.processes.specs.Sameness.{same_equation}
 use Rattle.processes.specs.contracts.equations.EquationPartialEq.TheImpl.{ghosts}
 use Rattle.processes.proofs.Sameness.{same_line_is, line_as_itself}
-use Rattle.modelfile.specs.Tests.{any}
 use Rattle.modelfile.proofs.Finding.{holds_any}
 use Rattle.modelfile.proofs.repeats.is_equation_before.Goals as goal
 
 pub returns : goal.returns
-returns c =
-    c.contains.ensures.value
-    ∙ holds_any same_equation same_line_is line_as_itself ghosts.eq (search rules) (search rules) c.args.e _
-    ∙ ap (λ n. any (λ d. same_equation d c.args.e) (take n c.args.equations.now)) (sub-zero c.args.count)
+returns c = c.contains.ensures.value ∙ holds_any same_equation same_line_is line_as_itself ghosts.eq (search rules) (search rules) c.args.e c.args.equations.now

@@ -1,14 +1,9 @@
-use Rattle.std.proofs.Common.{take, ap, ◌∙◌, rules}
-use native.Mathlib.Nat.{sub-zero}
+use Rattle.std.proofs.Common.{◌∙◌, rules}
 use Rattle.processes.specs.Sameness.{same_term}
 use Rattle.processes.specs.contracts.terms.TermPartialEq.TheImpl.{ghosts}
 use Rattle.processes.proofs.Sameness.{same_then_is, same_as_itself}
-use Rattle.modelfile.specs.Tests.{any}
 use Rattle.modelfile.proofs.Finding.{holds_any}
 use Rattle.modelfile.proofs.repeats.is_term_before.Goals as goal
 
 pub returns : goal.returns
-returns c =
-    c.contains.ensures.value
-    ∙ holds_any same_term same_then_is same_as_itself ghosts.eq (search rules) (search rules) c.args.t _
-    ∙ ap (λ n. any (λ d. same_term d c.args.t) (take n c.args.terms.now)) (sub-zero c.args.count)
+returns c = c.contains.ensures.value ∙ holds_any same_term same_then_is same_as_itself ghosts.eq (search rules) (search rules) c.args.t c.args.terms.now

@@ -10,15 +10,15 @@ overflow_mul-v c = let m : c.loop-b.v < 16 ^ 15 = sixteen_few _ _ c.loop-b.invar
 pub overflow_add-v : goal.overflow_add-v
 overflow_add-v c =
     let m : c.loop-b.v < 16 ^ 15 = sixteen_few _ _ c.loop-b.invariant.1 (omega arith) in
-    let d : c.in-Some.d < 16 = c.in-Some.ensures.1 in omega arith
+    let d : c.in_ok-hex_digit.field-0 < 16 = c.in_ok-hex_digit.ensures.small in omega arith
 
-pub returns-in-None : goal.returns-in-None
-returns-in-None c = hex_bad c.args.bytes.now c.loop-b.b-index c.loop-b.v c.loop-b-test.true c.loop-b.invariant.0 c.in-None.ensures.0
+pub returns-in_err-hex_digit : goal.returns-in_err-hex_digit
+returns-in_err-hex_digit c = hex_bad c.args.bytes.now c.loop-b.b-index c.loop-b.v c.loop-b-test.true c.loop-b.invariant.0 c.in_err-hex_digit.ensures.is ∙ sym c.from_residual.ensures
 
 pub loop-b-preserved : goal.loop-b-preserved
-loop-b-preserved c = (
-  hex_more c.args.bytes.now c.loop-b.b-index c.loop-b.v c.in-Some.d c.loop-b-test.true c.loop-b.invariant.0 c.in-Some.ensures.0,
-  sixteen_more _ _ _ c.loop-b.invariant.1 c.in-Some.ensures.1,
+loop-b-preserved c = rw c.from.ensures (
+  hex_more c.args.bytes.now c.loop-b.b-index c.loop-b.v c.in_ok-hex_digit.field-0 c.loop-b-test.true c.loop-b.invariant.0 c.in_ok-hex_digit.ensures.is,
+  sixteen_more _ _ _ c.loop-b.invariant.1 c.in_ok-hex_digit.ensures.small,
 )
 
 pub returns : goal.returns
