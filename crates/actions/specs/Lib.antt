@@ -1,2 +1,3 @@
 pub mod Communications
+pub mod Either
 pub mod Sets

@@ -9,3 +9,4 @@ pub mod lines;
 pub mod listed;
 pub mod ports;
 pub mod sets;
+pub mod two_kinds;

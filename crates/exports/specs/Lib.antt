@@ -1,4 +1,3 @@
 pub mod Answers
 pub mod Asking
-pub mod Choosing
 pub mod Entries

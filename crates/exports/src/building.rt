@@ -1,10 +1,10 @@
 // Models made by their descriptions.
-use crate::choosing::Choice;
 use crate::descriptions::{Description, Joint, Leaf, Sets, Span};
 use actions::communications::Communication;
 use actions::listed::Listed;
 use actions::ports::Ports;
 use actions::sets::ActionSet;
+use either::Either;
 use models::blocking::Blocked;
 use models::counters::Counter;
 use models::hiding::Hidden;
@@ -24,14 +24,14 @@ pub type LeftPile<M, C> = Layer<Merge<Double<M, C>, Layer<M>, C>>;
 
 pub type RightPile<M, C> = Layer<Merge<Layer<M>, Double<M, C>, C>>;
 // Any model that is described, over leaves and communications.
-pub type Described<M, C> = Choice<
-    Choice<Layer<M>, Double<M, C>>,
-    Choice<LeftPile<M, C>, RightPile<M, C>>,
+pub type Described<M, C> = Either<
+    Either<Layer<M>, Double<M, C>>,
+    Either<LeftPile<M, C>, RightPile<M, C>>,
 >;
 // A leaf, and a communication.
-pub type Bare<'a, 'b> = Choice<Counter, Table<'a, 'b>>;
+pub type Bare<'a, 'b> = Either<Counter, Table<'a, 'b>>;
 
-pub type Joining<'c> = Choice<Ports, Listed<'c>>;
+pub type Joining<'c> = Either<Ports, Listed<'c>>;
 
 // What a description is built of.
 #[derive(Clone, Copy)]
@@ -66,29 +66,27 @@ pub(crate) fn layer<M: TransitionSystem>(model: M, sets: Sets) -> Layer<M> {
 }
 
 fn bare<'a, 'b>(leaf: Leaf, rows: Rows<'a, 'b, '_>) -> Bare<'a, 'b> {
+    if !leaf.is_table {
+        return Either::Left(Counter::new(leaf.cap, leaf.take, leaf.give));
+    }
     let counts = Counts {
         terms: leaf.terms,
         steps: leaf.count,
         start: leaf.start,
     };
-    let table = Table::new(
+    Either::Right(Table::new(
         part(rows.ends, leaf.ends),
         part(rows.steps, leaf.steps),
         counts,
-    );
-    Choice::new(
-        Counter::new(leaf.cap, leaf.take, leaf.give),
-        table,
-        leaf.is_table,
-    )
+    ))
 }
 
 fn joining<'c>(joint: Joint, rows: Rows<'_, '_, 'c>) -> Joining<'c> {
-    Choice::new(
-        Ports::new(),
-        Listed::new(part(rows.lines, joint.lines)),
-        joint.by_lines,
-    )
+    if joint.by_lines {
+        Either::Right(Listed::new(part(rows.lines, joint.lines)))
+    } else {
+        Either::Left(Ports::new())
+    }
 }
 
 pub(crate) fn parts_of<'a, 'b, 'c>(
@@ -140,11 +138,10 @@ pub(crate) fn build<M: TransitionSystem + Copy, C: Communication + Copy>(
     d: &Description,
     parts: Parts<M, C>,
 ) -> Described<M, C> {
-    let low = Choice::new(
-        layer(parts.first, d.first.sets),
-        double(d, parts),
-        d.shape == 1,
-    );
-    let high = Choice::new(left_pile(d, parts), right_pile(d, parts), d.shape != 2);
-    Choice::new(low, high, d.shape > 1)
+    match d.shape {
+        0 => Either::Left(Either::Left(layer(parts.first, d.first.sets))),
+        1 => Either::Left(Either::Right(double(d, parts))),
+        2 => Either::Right(Either::Left(left_pile(d, parts))),
+        _ => Either::Right(Either::Right(right_pile(d, parts))),
+    }
 }

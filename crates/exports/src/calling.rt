@@ -24,7 +24,7 @@ use transitions::verdicts::Verdict;
 // judges with the sides exchanged; any other judges both models merged by ports with the left one, beside the sheet. Those that look at models take the first two, or the other two where that is said. `marks` and
 // `queue` are the entries lent, at most all.
 #[repr(C)]
-#[derive(Clone, Copy)]
+#[derive(Clone, Copy, Debug, PartialEq, Eq)]
 pub struct Call {
     pub kind: u8,
     pub other_left: bool,

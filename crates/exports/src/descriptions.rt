@@ -2,7 +2,7 @@
 
 // A part of a lent row. What passes the row's end is left out.
 #[repr(C)]
-#[derive(Clone, Copy)]
+#[derive(Clone, Copy, Debug, PartialEq, Eq)]
 pub struct Span {
     pub from: usize,
     pub to: usize,
@@ -10,15 +10,16 @@ pub struct Span {
 
 // A set that is blocked, and then one that is hidden.
 #[repr(C)]
-#[derive(Clone, Copy)]
+#[derive(Clone, Copy, Debug, PartialEq, Eq)]
 pub struct Sets {
     pub blocked: u64,
     pub hidden: u64,
 }
 
+// Kept: flags and a number for the shape, since descriptions cross to C.
 // A counter, or a table over parts of the lent row ends and steps; and the sets over it.
 #[repr(C)]
-#[derive(Clone, Copy)]
+#[derive(Clone, Copy, Debug, PartialEq, Eq)]
 pub struct Leaf {
     pub is_table: bool,
     pub take: u8,
@@ -34,7 +35,7 @@ pub struct Leaf {
 
 // A communication by ports, or by a part of the lent lines; and the sets over the merge.
 #[repr(C)]
-#[derive(Clone, Copy)]
+#[derive(Clone, Copy, Debug, PartialEq, Eq)]
 pub struct Joint {
     pub by_lines: bool,
     pub lines: Span,
@@ -44,7 +45,7 @@ pub struct Joint {
 // Shape 0 is the first leaf; 1 the first merged with the second under the inner joint; 2 that merged with the third under the outer
 // joint; any other the third merged with that.
 #[repr(C)]
-#[derive(Clone, Copy)]
+#[derive(Clone, Copy, Debug, PartialEq, Eq)]
 pub struct Description {
     pub shape: u8,
     pub first: Leaf,

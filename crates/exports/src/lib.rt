@@ -6,7 +6,6 @@ mod answers;
 mod asking;
 mod building;
 mod calling;
-mod choosing;
 mod descriptions;
 mod entries;
 mod files;
