@@ -9,7 +9,7 @@ use Rattle.transitions.specs.declared.verdicts.Figures.{Figures}
 use Rattle.transitions.specs.declared.verdicts.Side.{Side}
 use Rattle.transitions.specs.declared.verdicts.Side.TheVariants.{Left, Right}
 use Rattle.transitions.specs.Verdict.{Verdict}
-use Rattle.unfolding.proofs.Sameness.{same_then_is}
+use Rattle.processes.proofs.Sameness.{same_then_is}
 use Rattle.unfolding.specs.Listing.{Move, move, same_move, Unfolded, table, refused}
 
 abbrev pub Tells : {A : Type 0} → (A → A → Bool) → Type 0
