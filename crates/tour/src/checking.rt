@@ -36,7 +36,11 @@ fn tell_verdict(rt: &HostRuntime, call: &str, answer: Result<Verdict, Fault>) ->
     }
 }
 
-fn tell_reply(rt: &HostRuntime, call: &str, answer: Result<Option<Reply>, Fault>) -> io::Result<()> {
+fn tell_reply(
+    rt: &HostRuntime,
+    call: &str,
+    answer: Result<Option<Reply>, Fault>,
+) -> io::Result<()> {
     match answer {
         Ok(Some(Reply::Stays)) => println!(rt; "    {call}: it stays"),
         Ok(Some(Reply::Moves(state, place))) => println!(rt;

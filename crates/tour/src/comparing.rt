@@ -6,31 +6,29 @@ use sheets::sheet::Sheet;
 use std::io;
 use transitions::verdicts::{Counterexample, Side, Verdict};
 
-// Whether the till keeps a count for the booking beside its two baskets.
-#[derive(Clone, Copy)]
-pub struct Comparison {
-    pub booked: bool,
+// The state of a till whose baskets hold i and j passes.
+pub fn two_baskets(i: usize, j: usize) -> usize {
+    i.saturating_mul(CAP + 1).saturating_add(j)
 }
 
-// The state of a till whose baskets hold i and j passes.
-fn till_state(shape: Comparison, i: usize, j: usize) -> usize {
-    let n = CAP + 1;
-    let baskets = i.saturating_mul(n).saturating_add(j);
-    if shape.booked {
-        baskets
-            .saturating_mul(n)
-            .saturating_add(i.saturating_add(j))
-    } else {
-        baskets
-    }
+// The same of a till that keeps a count for the booking beside its two baskets.
+pub fn booked_baskets(i: usize, j: usize) -> usize {
+    two_baskets(i, j)
+        .saturating_mul(CAP + 1)
+        .saturating_add(i.saturating_add(j))
 }
 
 // Pairs each state of the rule with the states of the till in which as many passes are sold.
-fn pair_by_sales(sheet: &mut Sheet, shape: Comparison) -> Result<usize, Fault> {
+fn pair_by_sales<F: Fn(usize, usize) -> usize>(
+    sheet: &mut Sheet,
+    till_state: &F,
+) -> Result<usize, Fault>
+    requires { F.IsAlwaysCallable till_state.now }
+{
     let mut count: usize = 0;
-    for i in 0..CAP + 1 {
-        for j in 0..CAP + 1 - i {
-            sheet.pair(i + j, till_state(shape, i, j))?;
+    for i in 0..=CAP {
+        for j in 0..=CAP - i {
+            sheet.pair(i + j, till_state(i, j))?;
             count = count.saturating_add(1);
         }
     }
@@ -93,18 +91,20 @@ fn tell(
 }
 
 // The whole comparison, in three notes.
-pub fn compare(
+pub fn compare<F: Fn(usize, usize) -> usize + Drop>(
     rt: &HostRuntime,
     note: u8,
     rule: &impl TransitionSystem,
     till: &impl TransitionSystem,
-    shape: Comparison,
-) -> io::Result<()> {
+    till_state: F,
+) -> io::Result<()>
+    requires { F.IsAlwaysCallable till_state }
+{
     let mut bytes = [0u8; 16];
     let mut marks = [0u8; 32];
     let mut queue = [0u16; 32];
     let mut sheet = Sheet::open(&mut bytes, rule, till);
-    match pair_by_sales(&mut sheet, shape) {
+    match pair_by_sales(&mut sheet, &till_state) {
         Ok(count) => {
             let rows = rule.states();
             let columns = till.states();

@@ -19,7 +19,7 @@ fn print_table(rt: &HostRuntime, ends: &[u16], steps: &[Step], n: Counts) -> io:
     match table.write(&mut text) {
         Ok(end) => {
             let mut out = rt.stdout();
-            out.write_all(&text[0..end.min(512)])?;
+            out.write_all(&text[..end])?;
         }
         Err(refusal) => {
             let number = refusal.number();
@@ -81,9 +81,9 @@ pub fn read_till(rt: &HostRuntime) -> io::Result<()> {
             )?;
             unfold_till(
                 rt,
-                &lines[0..n.lines.min(4)],
-                &equations[0..n.equations.min(8)],
-                &terms[0..n.terms.min(8)],
+                &lines[..n.lines],
+                &equations[..n.equations],
+                &terms[..n.terms],
                 n.start,
             )
         }

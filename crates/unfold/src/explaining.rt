@@ -15,9 +15,9 @@ fn line_at(bytes: &[u8], number: usize) -> &[u8] {
 
 // The first bytes of a line; those that are no plain characters stay question marks.
 fn show(line: &[u8], shown: &mut [u8]) {
-    for i in 0..line.len().min(shown.len()) {
-        if 32 <= line[i] && line[i] < 127 {
-            shown[i] = line[i];
+    for (place, byte) in shown.iter_mut().zip(line) {
+        if (32..127).contains(byte) {
+            *place = *byte;
         }
     }
 }

@@ -23,7 +23,7 @@ fn print_table(rt: &HostRuntime, ends: &[u16], steps: &[Step], n: Counts) -> io:
     match table.write(&mut text) {
         Ok(end) => {
             let mut out = rt.stdout();
-            out.write_all(&text[0..end.min(81940)])
+            out.write_all(&text[..end])
         }
         Err(refusal) => println!(rt; "r,{},0", refusal.number()),
     }
@@ -69,9 +69,9 @@ fn print_model(rt: &HostRuntime, bytes: &[u8]) -> io::Result<()> {
     match read(bytes, &mut lines, &mut equations, &mut terms) {
         Ok(n) => print_unfolding(
             rt,
-            &lines[0..n.lines.min(32)],
-            &equations[0..n.equations.min(1024)],
-            &terms[0..n.terms.min(256)],
+            &lines[..n.lines],
+            &equations[..n.equations],
+            &terms[..n.terms],
             n.start,
         ),
         Err(refusal) => {
