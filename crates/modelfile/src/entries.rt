@@ -19,6 +19,7 @@ pub enum Entry {
     Starts(u32),
 }
 
+// Kept: a conversion that asks for narrow numbers is a function, since a `From` may ask nothing.
 // The term by its kind and operands, which are narrow enough.
 fn term_of(kind: Kind, p: u32, q: u64) -> Term
     requires { NarrowTerm kind p q }

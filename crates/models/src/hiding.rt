@@ -10,7 +10,7 @@ use crate::systems::TransitionSystem;
 use actions::sets::ActionSet;
 
 // Makes the steps silent whose action is in the set.
-#[derive(Clone, Copy)]
+#[derive(Clone, Copy, Debug, PartialEq, Eq)]
 pub struct Hiding {
     set: ActionSet,
 }

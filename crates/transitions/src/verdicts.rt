@@ -36,6 +36,7 @@ pub enum Counterexample {
 pub type Verdict = Result<(), Counterexample>;
 
 // A verdict as five numbers, unused ones 0.
+// Kept: kind and side are numbers here, since these five are what is printed and what crosses to C.
 #[derive(Clone, Copy, Debug, PartialEq, Eq, Default)]
 pub struct Figures {
     pub kind: u8,
