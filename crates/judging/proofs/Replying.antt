@@ -61,7 +61,7 @@ none_both a b e f = ap (λ (x : Option Fault). or_else x b) e ∙ f
 -- The reply is that of the side that is asked.
 module _ (L R : Lts) (B : Pairing) (a : Ask) (x : Step) (r : Option Reply) where
   pub by_left : a.side ≡ 0 → ReplyIs R B a.s a.t x r → RepliesTo L R B a x r
-  by_left e h = subst (λ (b : Bool). cond b (ReplyIs R B a.s a.t x r) (ReplyIs L (flip B) a.t a.s x r)) (sym (eq-eqb a.side 0 e)) h
+  by_left e h = rw e h
 
-  pub by_right : (a.side ≡ 0 → ⊥) → ReplyIs L (flip B) a.t a.s x r → RepliesTo L R B a x r
-  by_right e h = subst (λ (b : Bool). cond b (ReplyIs R B a.s a.t x r) (ReplyIs L (flip B) a.t a.s x r)) (sym (ne_eqb a.side 0 e)) h
+  pub by_right : a.side ≡ 1 → ReplyIs L (flip B) a.t a.s x r → RepliesTo L R B a x r
+  by_right e h = rw e h
