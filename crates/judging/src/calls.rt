@@ -58,5 +58,5 @@ pub fn judge<L: TransitionSystem, R: TransitionSystem, P: Pairing>(
         right,
         pairing,
     };
-    Ok(comparison.judge_in(&mut marks[0..n], &mut queue[0..n]))
+    Ok(comparison.judge_in(&mut marks[..n], &mut queue[..n]))
 }

@@ -127,7 +127,7 @@ pub fn reply<L: TransitionSystem, R: TransitionSystem, P: Pairing>(
                 s: ask.s,
                 want,
             };
-            Ok(query.reply_in(ask.t, &mut marks[0..n], &mut queue[0..n]))
+            Ok(query.reply_in(ask.t, &mut marks[..n], &mut queue[..n]))
         }
         Side::Right => {
             let flipped = Flipped { pairing };
@@ -137,7 +137,7 @@ pub fn reply<L: TransitionSystem, R: TransitionSystem, P: Pairing>(
                 s: ask.t,
                 want,
             };
-            Ok(query.reply_in(ask.s, &mut marks[0..n], &mut queue[0..n]))
+            Ok(query.reply_in(ask.s, &mut marks[..n], &mut queue[..n]))
         }
     }
 }

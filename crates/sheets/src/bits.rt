@@ -1,17 +1,6 @@
 // The bits of a row of bytes.
-ghost use Rattle.std.specs.Prelude.{◌≡◌, ◌/◌, ◌<◌, ◌≤◌, length};
-ghost use Rattle.judging.specs.Judged.{Wiped};
+ghost use Rattle.std.specs.Prelude.{◌≡◌, ◌/◌, ◌<◌, length};
 ghost use Rattle.sheets.specs.Bits.{with_bit, without_bit};
-
-// Sets the first n bytes to 0.
-pub(crate) fn clear(bytes: &mut [u8], n: usize)
-    requires { n ≤ length bytes.old }
-    ensures { Wiped n bytes.old bytes.new }
-{
-    for i in 0..n {
-        bytes[i] = 0;
-    }
-}
 
 // Puts bit i in.
 pub(crate) fn put_bit(bytes: &mut [u8], i: usize)

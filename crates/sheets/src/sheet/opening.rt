@@ -1,7 +1,6 @@
 // The opening of a sheet.
 ghost use Rattle.sheets.specs.Calls.{Opened};
 
-use crate::bits::clear;
 use crate::sheet::Sheet;
 use crate::size::Size;
 use models::systems::TransitionSystem;
@@ -30,7 +29,7 @@ impl<'a> Sheet<'a> {
                 },
             };
         }
-        clear(bytes, needed);
+        bytes[..needed].fill(0);
         Sheet { bytes, size }
     }
 }
