@@ -1,43 +1,13 @@
 // One call of any kind.
 ghost use Rattle.std.specs.Prelude.{◌≡◌, max, length};
 ghost use Rattle.auditing.specs.Plain.{next};
-ghost use Rattle.auditing.specs.Telling.{Tells, JudgeTells, WithoutTells, ReplyTells, of_change, of_verdict, of_reply, LeftBy};
+ghost use Rattle.auditing.specs.Telling.{Tells, JudgeTells, WithoutTells, ReplyTells, LeftBy};
 ghost use Rattle.sheets.specs.Sheets.{standing as pairs, rows_of, columns_of, Kept};
 
 use crate::calls::{Answer, Call, Lent};
 use judging::replies::Ask;
 use models::systems::TransitionSystem;
-use pairings::faults::Fault;
 use sheets::sheet::Sheet;
-use transitions::replies::Reply;
-use transitions::verdicts::Verdict;
-
-fn answer_of_change(r: Result<(), Fault>) -> Answer
-    ensures { result ≡ of_change r }
-{
-    match r {
-        Ok(_) => Answer::Done,
-        Err(fault) => Answer::Refused(fault),
-    }
-}
-
-fn answer_of_verdict(r: Result<Verdict, Fault>) -> Answer
-    ensures { result ≡ of_verdict r }
-{
-    match r {
-        Ok(verdict) => Answer::Judged(verdict),
-        Err(fault) => Answer::Refused(fault),
-    }
-}
-
-fn answer_of_reply(r: Result<Option<Reply>, Fault>) -> Answer
-    ensures { result ≡ of_reply r }
-{
-    match r {
-        Ok(reply) => Answer::Replied(reply),
-        Err(fault) => Answer::Refused(fault),
-    }
-}
 
 // The verdict, in the part of the scratch that is lent.
 fn judge_lent<L: TransitionSystem, R: TransitionSystem>(
@@ -54,7 +24,8 @@ fn judge_lent<L: TransitionSystem, R: TransitionSystem>(
 {
     let m = lent.marks.min(marks.len());
     let q = lent.queue.min(queue.len());
-    answer_of_verdict(sheet.judge(left, right, &mut marks[0..m], &mut queue[0..q]))
+    let verdict = sheet.judge(left, right, &mut marks[..m], &mut queue[..q]);
+    verdict.map_or_else(Answer::Refused, Answer::Judged)
 }
 
 // The verdict with a pair out, in the part of the scratch that is lent.
@@ -76,7 +47,8 @@ fn without_lent<L: TransitionSystem, R: TransitionSystem>(
 {
     let m = lent.marks.min(marks.len());
     let q = lent.queue.min(queue.len());
-    answer_of_verdict(sheet.without(left, right, s, t, &mut marks[0..m], &mut queue[0..q]))
+    let verdict = sheet.without(left, right, s, t, &mut marks[..m], &mut queue[..q]);
+    verdict.map_or_else(Answer::Refused, Answer::Judged)
 }
 
 // The reply, in the part of the scratch that is lent.
@@ -95,7 +67,8 @@ fn reply_lent<L: TransitionSystem, R: TransitionSystem>(
 {
     let m = lent.marks.min(marks.len());
     let q = lent.queue.min(queue.len());
-    answer_of_reply(sheet.reply(left, right, ask, &mut marks[0..m], &mut queue[0..q]))
+    let reply = sheet.reply(left, right, ask, &mut marks[..m], &mut queue[..q]);
+    reply.map_or_else(Answer::Refused, Answer::Replied)
 }
 
 // Makes the call, and tells its answer.
@@ -112,8 +85,14 @@ pub(crate) fn make<L: TransitionSystem, R: TransitionSystem>(
     ensures queue { LeftBy result (max (rows_of sheet.old) (columns_of sheet.old)) queue.old queue.new }
 {
     match call {
-        Call::Pair { s, t } => answer_of_change(sheet.pair(*s, *t)),
-        Call::Unpair { s, t } => answer_of_change(sheet.unpair(*s, *t)),
+        Call::Pair { s, t } => {
+            let done = sheet.pair(*s, *t);
+            done.map_or_else(Answer::Refused, |()| Answer::Done)
+        }
+        Call::Unpair { s, t } => {
+            let done = sheet.unpair(*s, *t);
+            done.map_or_else(Answer::Refused, |()| Answer::Done)
+        }
         Call::Judge { left, right, lent } => {
             judge_lent(sheet, *left, *right, *lent, marks, queue)
         }
