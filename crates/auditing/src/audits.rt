@@ -51,6 +51,7 @@ pub fn audit<
     let mut sheet = Sheet::open(bytes, first, second);
     for (i, call) in calls.iter().enumerate() {
         let answer = make(&mut sheet, call, marks, queue);
+        // Kept: after a write through `answers.get_mut(i)` a proof no longer knows the other answers.
         if i < answers.len() {
             answers[i] = answer;
         }

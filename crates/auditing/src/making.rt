@@ -9,6 +9,9 @@ use judging::replies::Ask;
 use models::systems::TransitionSystem;
 use sheets::sheet::Sheet;
 
+// Kept: the three cuts of the scratch: a function that returns `&mut row[..n]`, or a half of `split_at_mut`, got no proof of what
+// it lends.
+
 // The verdict, in the part of the scratch that is lent.
 fn judge_lent<L: TransitionSystem, R: TransitionSystem>(
     sheet: &Sheet,

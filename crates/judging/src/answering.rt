@@ -1,4 +1,6 @@
-// Whether a right state answers the steps and the end of a left one.
+// Whether a right state answers the steps and the end of a left one. A `for` over places or states whose body writes the scratch
+// stays a loop, here and in the other parts of the judge: a closure of a chain may not change what it captures and still tell
+// what it returned.
 ghost use Rattle.std.specs.Prelude.{◌≡◌, ◌<◌, ◌≤◌, ◌&&◌, length, ◌==◌};
 ghost use Rattle.judging.specs.Scratch.{Clean};
 ghost use Rattle.judging.specs.Parts.{Tells, Lowest};
