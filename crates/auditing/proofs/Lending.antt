@@ -7,7 +7,7 @@ use Rattle.std.proofs.lemmas.Bool.{cases_lt, and_parts, eqb-true, ltb-false}
 use Rattle.auditing.specs.declared.calls.Answer.{Answer}
 use Rattle.auditing.specs.declared.calls.Lent.{Lent}
 use Rattle.auditing.specs.Promise.{Swept}
-use Rattle.auditing.specs.Telling.{Room, lent_of, of_change, of_verdict, of_reply, LeftBy}
+use Rattle.auditing.specs.Telling.{Room, lent_of, of_verdict, of_reply, LeftBy}
 use Rattle.auditing.specs.declared.calls.Answer.TheVariants.{Done, Judged, Replied, Refused}
 use Rattle.judging.proofs.Replying.{both_none}
 use Rattle.judging.specs.declared.replies.Ask.{Ask}
@@ -133,10 +133,6 @@ answer_is of (Err y) a Q E f g h = g y h
 pub by_verdict : (r : Result Verdict Fault) (a : Answer) (n : ℕ) (xs ys : List ℕ) → a ≡ of_verdict r → Left r n xs ys → LeftBy a n xs ys
 by_verdict (Ok v) a n xs ys e h = subst (λ (x : Answer). LeftBy x n xs ys) (sym e) h
 by_verdict (Err f) a n xs ys e h = subst (λ (x : Answer). LeftBy x n xs ys) (sym e) h
-
-pub by_change : (r : Result (Unit {0}) Fault) (a : Answer) (n : ℕ) (xs : List ℕ) → a ≡ of_change r → LeftBy a n xs xs
-by_change (Ok v) a n xs e = subst (λ (x : Answer). LeftBy x n xs xs) (sym e) refl
-by_change (Err f) a n xs e = subst (λ (x : Answer). LeftBy x n xs xs) (sym e) refl
 
 pub by_reply : (r : Result (Option Reply) Fault) (a : Answer) (n : ℕ) (xs ys : List ℕ) → a ≡ of_reply r → Left r n xs ys → LeftBy a n xs ys
 by_reply (Ok v) a n xs ys e h = subst (λ (x : Answer). LeftBy x n xs ys) (sym e) h

@@ -1,13 +1,21 @@
 // One call of any kind.
 ghost use Rattle.std.specs.Prelude.{◌≡◌, max, length};
 ghost use Rattle.auditing.specs.Plain.{next};
-ghost use Rattle.auditing.specs.Telling.{Tells, JudgeTells, WithoutTells, ReplyTells, LeftBy};
+ghost use Rattle.auditing.specs.Telling.{Tells, JudgeTells, WithoutTells, ReplyTells, of_change, LeftBy};
 ghost use Rattle.sheets.specs.Sheets.{standing as pairs, rows_of, columns_of, Kept};
 
 use crate::calls::{Answer, Call, Lent};
 use judging::replies::Ask;
 use models::systems::TransitionSystem;
+use pairings::faults::Fault;
 use sheets::sheet::Sheet;
+
+// What pair and unpair tell.
+fn answer_of_change(change: Result<(), Fault>) -> Answer
+    ensures { result ≡ of_change change }
+{
+    change.map_or_else(Answer::Refused, |()| Answer::Done)
+}
 
 // Kept: the three cuts of the scratch: a function that returns `&mut row[..n]`, or a half of `split_at_mut`, got no proof of what
 // it lends.
@@ -88,14 +96,8 @@ pub(crate) fn make<L: TransitionSystem, R: TransitionSystem>(
     ensures queue { LeftBy result (max (rows_of sheet.old) (columns_of sheet.old)) queue.old queue.new }
 {
     match call {
-        Call::Pair { s, t } => {
-            let done = sheet.pair(*s, *t);
-            done.map_or_else(Answer::Refused, |()| Answer::Done)
-        }
-        Call::Unpair { s, t } => {
-            let done = sheet.unpair(*s, *t);
-            done.map_or_else(Answer::Refused, |()| Answer::Done)
-        }
+        Call::Pair { s, t } => answer_of_change(sheet.pair(*s, *t)),
+        Call::Unpair { s, t } => answer_of_change(sheet.unpair(*s, *t)),
         Call::Judge { left, right, lent } => {
             judge_lent(sheet, *left, *right, *lent, marks, queue)
         }
