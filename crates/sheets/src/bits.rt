@@ -1,6 +1,16 @@
 // The bits of a row of bytes.
-ghost use Rattle.std.specs.Prelude.{◌≡◌, ◌/◌, ◌<◌, length};
+ghost use Rattle.std.specs.Prelude.{◌≡◌, ◌/◌, ◌<◌, ◌≤◌, length};
+ghost use Rattle.judging.specs.Judged.{Wiped};
 ghost use Rattle.sheets.specs.Bits.{with_bit, without_bit};
+
+// Sets the first n bytes to 0.
+#[tactic(auto, using(crate::proofs::Clearing::wiped_fill))]
+pub(crate) fn clear(bytes: &mut [u8], n: usize)
+    requires { n ≤ length bytes.old }
+    ensures { Wiped n bytes.old bytes.new }
+{
+    bytes[..n].fill(0);
+}
 
 // Puts bit i in.
 pub(crate) fn put_bit(bytes: &mut [u8], i: usize)

@@ -1,6 +1,7 @@
 // The opening of a sheet.
 ghost use Rattle.sheets.specs.Calls.{Opened};
 
+use crate::bits::clear;
 use crate::sheet::Sheet;
 use crate::size::Size;
 use models::systems::TransitionSystem;
@@ -29,7 +30,7 @@ impl<'a> Sheet<'a> {
                 },
             };
         }
-        bytes[..needed].fill(0);
+        clear(bytes, needed);
         Sheet { bytes, size }
     }
 }
