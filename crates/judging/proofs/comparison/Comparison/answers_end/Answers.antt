@@ -3,10 +3,6 @@ use Rattle.std.proofs.lemmas.Bool.{false≢true}
 use Rattle.judging.proofs.Answered.{end_tells}
 use Rattle.judging.proofs.comparison.Comparison.answers_end.Goals as goal
 
-pub returns-then-not-may_end : goal.returns-then-not-may_end
-returns-then-not-may_end g c =
-    record { tells = λ e. absurd (false≢true (c.if-not-may_end.ensures ∙ e)); clean = c.requires.clean }
-
 pub returns : goal.returns
 returns g c =
     let L = g.L.TransitionSystem.meaning c.args.self.now.left.now in
