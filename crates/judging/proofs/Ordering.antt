@@ -1,6 +1,6 @@
 -- From what the judge found, part by part, to the verdict.
-use Rattle.std.proofs.Common.{◌≡◌, ℕ, ◌+◌, ◌<◌, ◌≤◌, Bool, true, false, ◌⊎◌, [], ◌∷◌, Some, None, Ok, Err, sym, refl, ap, ◌∙◌, subst, inl, inr, ⊎_elim, arith}
-use Rattle.std.proofs.lemmas.Bool.{false≢true, cases_lt, cases_eq}
+use Rattle.std.proofs.Common.{◌≡◌, ℕ, ◌<◌, ◌≤◌, Bool, true, ◌⊎◌, [], ◌∷◌, Some, None, Ok, Err, sym, refl, ap, ◌∙◌, subst, inl, inr, ⊎_elim, arith}
+use Rattle.std.proofs.lemmas.Bool.{cases_lt}
 use Rattle.transitions.specs.declared.verdicts.Side.TheVariants.{Left, Right}
 use Rattle.transitions.specs.declared.verdicts.Counterexample.{Counterexample}
 use Rattle.transitions.specs.declared.verdicts.Counterexample.TheVariants.{StartMissing, StepUnanswered, EndUnanswered, RootUnanswered}
@@ -79,10 +79,6 @@ module _ (L R : Lts) (B : Pairing) (s t : ℕ) (hs : s < L.states) (ht : t < R.s
             })
             (EndUnanswered s t Right) refl (hs, ht) (λ h. out (h st))
 
-        pub all_answered : AtEnd R L (flip B) t s → PairJudged L R B s t (Ok tt)
-        all_answered ended' =
-            record { lefts = λ q h w _. lefts q h; rights = λ q h w _. rights q h; left_end = λ w _. ended; right_end = λ w _. ended' }
-
 -- ---- a row of pairs
 
 module _ (L R : Lts) (B : Pairing) (s : ℕ) where
@@ -94,10 +90,6 @@ module _ (L R : Lts) (B : Pairing) (s : ℕ) where
   pub row_passed : (n t : ℕ) → RowUpto n → NoneFrom (B s) n t → RowUpto t
   row_passed n t row none u h =
       ⊎_elim (λ (l : u < n). row u l) (λ (l : n ≤ u). unpaired L R B s u (none u l h)) (cases_lt u n)
-
-  pub row_more : (n t : ℕ) → RowUpto n → NoneFrom (B s) n t → Upto L R B s t 4 0 → RowUpto (t + 1)
-  row_more n t row none here u h =
-      ⊎_elim (λ (e : u ≡ t). subst (λ (x : ℕ). Upto L R B s x 4 0) (sym e) here) (λ (ne : u ≡ t → ⊥). row_passed n t row none u (omega (arith, ne))) (cases_eq u t)
 
   pub row_broken : (n t : ℕ) (k : Counterexample) → RowUpto n → NoneFrom (B s) n t → PairJudged L R B s t (Err k) → RowJudged L R B s (Err k)
   row_broken n t k row none judged start before = judged start pairs
@@ -116,18 +108,6 @@ rows_broken L R B s k rows judged start = judged start pairs
 -- ---- the start and the root
 
 module _ (L R : Lts) (B : Pairing) where
-  start_earlier : (j : Counterexample) → Lex (rank j) (0 ∷ 0 ∷ 0 ∷ 0 ∷ 0 ∷ []) → Holds L R B j
-  start_earlier (StartMissing s t) h = absurd (omega arith)
-  start_earlier (StepUnanswered s t Left q) h = absurd (omega arith)
-  start_earlier (StepUnanswered s t Right q) h = absurd (omega arith)
-  start_earlier (EndUnanswered s t Left) h = absurd (omega arith)
-  start_earlier (EndUnanswered s t Right) h = absurd (omega arith)
-  start_earlier (RootUnanswered s t Left q) h = absurd (omega arith)
-  start_earlier (RootUnanswered s t Right q) h = absurd (omega arith)
-
-  start_first : B L.start R.start ≡ false → First L R B (StartMissing L.start R.start)
-  start_first out = record { proper = (refl, refl); broken = λ h. false≢true (sym out ∙ h); earlier = λ j pr lx. start_earlier j lx }
-
   root_lex : (c d q p : ℕ) → Lex (2 ∷ 0 ∷ 0 ∷ c ∷ q ∷ []) (2 ∷ 0 ∷ 0 ∷ d ∷ p ∷ []) → (c < d) ⊎ ((c ≡ d) × (q < p))
   root_lex c d q p (inl h) = absurd (omega arith)
   root_lex c d q p (inr (e, inl h)) = absurd (omega arith)
@@ -185,9 +165,6 @@ module _ (L R : Lts) (B : Pairing) (s t : ℕ) (sl : s ≡ L.start) (tr : t ≡ 
 
   carried : (k : ℕ → ℕ → Counterexample) → First L R B (k L.start R.start) → First L R B (k s t)
   carried k h = subst (λ (x : ℕ). First L R B (k x t)) (sym sl) (subst (λ (y : ℕ). First L R B (k L.start y)) (sym tr) h)
-
-  pub missing : B s t ≡ false → First L R B (StartMissing s t)
-  missing h = carried StartMissing (start_first L R B (started false h))
 
   pub unrooted_left : (p : ℕ) → B s t ≡ true → RowsJudged L R B (Ok tt) → Lowest L.width (AtRoot L R B L.start) (Some p) → First L R B (RootUnanswered s t Left p)
   unrooted_left p h rows low = carried (λ x y. RootUnanswered x y Left p) (left_root L R B (started true h) rows p low)

@@ -1,5 +1,5 @@
 -- What pair and unpair answer.
-use Rattle.std.proofs.Common.{◌≡◌, ℕ, Bool, true, false, cond, Some, None, Ok, Err, Option, Result, refl}
+use Rattle.std.proofs.Common.{◌≡◌, ℕ, Bool, true, false, cond, Some, None, Ok, Err, Result, refl}
 use Rattle.pairings.specs.declared.faults.Fault.{Fault}
 use Rattle.pairings.specs.declared.faults.Fault.TheVariants.{NoState, Blank, Stands, Missing}
 use Rattle.sheets.specs.Calls.{blank, in_range, bitless, pair_says, unpair_says}

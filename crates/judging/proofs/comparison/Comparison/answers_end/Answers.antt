@@ -1,5 +1,4 @@
-use Rattle.std.proofs.Common.{sym, ◌∙◌}
-use Rattle.std.proofs.lemmas.Bool.{false≢true}
+use Rattle.std.proofs.Common.{sym}
 use Rattle.judging.proofs.Answered.{end_tells}
 use Rattle.judging.proofs.comparison.Comparison.answers_end.Goals as goal
 

@@ -1,5 +1,4 @@
-use Rattle.std.proofs.Common.{ap}
-use Rattle.judging.proofs.Ordering.{left_step, right_step, left_end, right_end, all_answered}
+use Rattle.judging.proofs.Ordering.{left_step, right_step, left_end, right_end}
 use Rattle.judging.proofs.comparison.Comparison.judge_pair.Goals as goal
 
 pub returns-in-Some : goal.returns-in-Some
@@ -42,19 +41,6 @@ returns-then-not-answers_end-2 g c =
     let B = g.P.Pairing.standing c.args.self.now.pairing.now in
     record {
       judged = right_end L R B _ _ c.requires.leftmost c.requires.rightmost c.requires.stands c.in_default.ensures.lowest
-          (rw (c.turned-turned.ensures.left, c.turned-turned.ensures.right, c.turned-turned.ensures.pairing) at c.in_default-first_unanswered.ensures.lowest)
-          c.if-not-answers_end.ensures.tells
-          (rw (c.turned-turned.ensures.left, c.turned-turned.ensures.right, c.turned-turned.ensures.pairing) at c.if-not-answers_end-2.ensures.tells);
-      clean = c.answers_end-2.ensures.clean;
-    }
-
-pub returns : goal.returns
-returns g c =
-    let L = g.L.TransitionSystem.meaning c.args.self.now.left.now in
-    let R = g.R.TransitionSystem.meaning c.args.self.now.right.now in
-    let B = g.P.Pairing.standing c.args.self.now.pairing.now in
-    record {
-      judged = all_answered L R B _ _ c.requires.leftmost c.requires.rightmost c.requires.stands c.in_default.ensures.lowest
           (rw (c.turned-turned.ensures.left, c.turned-turned.ensures.right, c.turned-turned.ensures.pairing) at c.in_default-first_unanswered.ensures.lowest)
           c.if-not-answers_end.ensures.tells
           (rw (c.turned-turned.ensures.left, c.turned-turned.ensures.right, c.turned-turned.ensures.pairing) at c.if-not-answers_end-2.ensures.tells);
