@@ -17,8 +17,7 @@ fn answer_of_change(change: Result<(), Fault>) -> Answer
     change.map_or_else(Answer::Refused, |()| Answer::Done)
 }
 
-// Kept: the three cuts of the scratch: a function that returns `&mut row[..n]`, or a half of `split_at_mut`, got no proof of what
-// it lends.
+// Kept: the three cuts of the scratch: a function that returns such a part of a row gets no proof of what it lends.
 
 // The verdict, in the part of the scratch that is lent.
 fn judge_lent<L: TransitionSystem, R: TransitionSystem>(
