@@ -1,5 +1,5 @@
 -- A part of the scratch is lent.
-use Rattle.std.proofs.Common.{◌≡◌, ℕ, ◌+◌, ◌-◌, ◌<◌, ◌≤◌, min, max, Bool, true, false, cond, ◌&&◌, ◌||◌, eqb, ltb, List, ◌++◌, length, get_or, take, drop, Some, None, Ok, Err, Option, Result, sym, refl, ap, ◌∙◌, subst, inl, inr, ⊎_elim, arith, take-append-drop, length-take}
+use Rattle.std.proofs.Common.{◌≡◌, ℕ, ◌+◌, ◌-◌, ◌<◌, ◌≤◌, min, max, Bool, true, false, cond, ◌&&◌, ◌||◌, eqb, ltb, List, ◌++◌, length, get_or, take, drop, Some, None, Ok, Err, Option, Result, MatchResult, sym, refl, ap, ◌∙◌, subst, inl, inr, ⊎_elim, arith, take-append-drop, length-take}
 use native.Mathlib.Nat.{min-le_right, min-eq_left}
 use borrow.Rule.Slice.PartMut.{post_of}
 use Rattle.std.proofs.lemmas.List.{get_or_append_left, get_or-append_right, get_or-drop, get_or-take}
@@ -21,17 +21,16 @@ use Rattle.transitions.specs.Verdict.{Verdict}
 use Rattle.transitions.specs.Lts.{Lts}
 use Rattle.transitions.specs.Match.{Pairing}
 
-part_long : (xs : List ℕ) (a r : ℕ) → r ≡ min a (length xs) → length (take (r - 0) xs) ≡ min a (length xs)
+part_long : (xs : List ℕ) (a r : ℕ) → r ≡ min a (length xs) → length (take r xs) ≡ min a (length xs)
 part_long xs a r e =
     let low : min a (length xs) ≤ length xs = min-le_right _ _ in
-    let d : r - 0 ≡ r = omega arith in
-    length-take (r - 0) xs ∙ min-eq_left (omega (arith, d, e, low)) ∙ d ∙ e
+    length-take r xs ∙ min-eq_left (omega (arith, e, low)) ∙ e
 
 -- How long the lent parts are.
 pub part_lent : (marks queue : List ℕ) (part : Lent) (m q : ℕ) → m ≡ min part.marks (length marks) → q ≡ min part.queue (length queue)
-    → ◌≡◌ {A = Room} (record { marks = length (take (m - 0) marks); queue = length (take (q - 0) queue) }) (lent_of (record { marks = length marks; queue = length queue }) part)
+    → ◌≡◌ {A = Room} (record { marks = length (take m marks); queue = length (take q queue) }) (lent_of (record { marks = length marks; queue = length queue }) part)
 part_lent marks queue part m q e f =
-    ap (λ (x : ℕ). record { marks = x; queue = length (take (q - 0) queue) }) (part_long marks part.marks m e)
+    ap (λ (x : ℕ). record { marks = x; queue = length (take q queue) }) (part_long marks part.marks m e)
     ∙ ap (λ (y : ℕ). record { marks = min part.marks (length marks); queue = y }) (part_long queue part.queue q f)
 
 -- ---- what no refusal says
@@ -95,36 +94,40 @@ pub when_more : {A P Q : Type 0} (r : Result A Fault) → (P → Q) → When r P
 when_more (Ok _) f p = f p
 when_more (Err _) f p = tt
 
-pub whole : {A : Type 0} (r : Result A Fault) (n N k : ℕ) (xs ys : List ℕ) → When r ((n ≡ N) × (n ≤ k)) → k ≤ length xs → length ys ≡ k → Left r n (take (k - 0) xs) ys
-    → Left r N xs (ys ++ post_of 0 (k - 0) xs)
+pub whole : {A : Type 0} (r : Result A Fault) (n N k : ℕ) (xs ys : List ℕ) → When r ((n ≡ N) × (n ≤ k)) → k ≤ length xs → length ys ≡ k → Left r n (take k xs) ys
+    → Left r N xs (ys ++ post_of 0 k xs)
 whole (Ok _) n N k xs ys fit low len w = record {
   zeros = λ j h. get_or_append_left ys _ 0 j (omega (arith, fit.0, fit.1)) ∙ w.zeros j (omega (arith, fit.0));
   rest = λ j h.
       ⊎_elim
       (λ (l : j < k).
-      let d : k - 0 ≡ k = omega arith in
-      get_or_append_left ys _ 0 j (omega arith) ∙ w.rest j (omega (arith, fit.0)) ∙ ap (λ (x : ℕ). get_or (take x xs) j 0) d ∙ get_or-take k xs j 0 l)
+      get_or_append_left ys _ 0 j (omega arith) ∙ w.rest j (omega (arith, fit.0)) ∙ get_or-take k xs j 0 l)
       (λ (l : k ≤ j).
-      let d : k - 0 ≡ k = omega arith in
       let e : k + (j - k) ≡ j = omega arith in
-      get_or-append_right ys (post_of 0 (k - 0) xs) k j 0 len l ∙ ap (λ (m : ℕ). get_or (drop m xs) (j - k) 0) d ∙ get_or-drop k xs (j - k) 0 ∙ ap (λ (m : ℕ). get_or xs m 0) e)
+      get_or-append_right ys (post_of 0 k xs) k j 0 len l ∙ get_or-drop k xs (j - k) 0 ∙ ap (λ (m : ℕ). get_or xs m 0) e)
       (cases_lt j k);
 }
-whole (Err _) n N k xs ys fit low len e = ap (λ (zs : List ℕ). zs ++ drop (k - 0) xs) e ∙ take-append-drop (k - 0) xs
+whole (Err _) n N k xs ys fit low len e = ap (λ (zs : List ℕ). zs ++ drop k xs) e ∙ take-append-drop k xs
 
 -- What a call that was lent the first k marks and the first j entries of the queue leaves in all of them.
-module _ {A : Type 0} (r : Result A Fault) (n m : ℕ) (L R : Lts) (marks queue ys : List ℕ) (part : Lent) (k j : ℕ) (ek : k ≡ min part.marks (length marks)) (ej : j ≡ min part.queue (length queue)) (free : When r (judge_why n m L R (length (take (k - 0) marks)) (length (take (j - 0) queue)) ≡ None)) where
-  pub lent_marks : length ys ≡ length (take (k - 0) marks) → Left r (larger L R) (take (k - 0) marks) ys → Left r (max n m) marks (ys ++ post_of 0 (k - 0) marks)
+module _ {A : Type 0} (r : Result A Fault) (n m : ℕ) (L R : Lts) (marks queue ys : List ℕ) (part : Lent) (k j : ℕ) (ek : k ≡ min part.marks (length marks)) (ej : j ≡ min part.queue (length queue)) (free : When r (judge_why n m L R (length (take k marks)) (length (take j queue)) ≡ None)) where
+  pub lent_marks : length ys ≡ length (take k marks) → Left r (larger L R) (take k marks) ys → Left r (max n m) marks (ys ++ post_of 0 k marks)
   lent_marks len h =
-      let long : length (take (k - 0) marks) ≡ k = part_long marks part.marks k ek ∙ sym ek in
+      let long : length (take k marks) ≡ k = part_long marks part.marks k ek ∙ sym ek in
       let low : min part.marks (length marks) ≤ length marks = min-le_right _ _ in
       whole r (larger L R) (max n m) k marks ys (when_more r (λ w. let z = ready n m L R _ _ w in (z.same, subst (λ (x : ℕ). larger L R ≤ x) long z.marks)) free) (omega (arith, ek, low)) (len ∙ long) h
 
-  pub lent_queue : length ys ≡ length (take (j - 0) queue) → Left r (larger L R) (take (j - 0) queue) ys → Left r (max n m) queue (ys ++ post_of 0 (j - 0) queue)
+  pub lent_queue : length ys ≡ length (take j queue) → Left r (larger L R) (take j queue) ys → Left r (max n m) queue (ys ++ post_of 0 j queue)
   lent_queue len h =
-      let long : length (take (j - 0) queue) ≡ j = part_long queue part.queue j ej ∙ sym ej in
+      let long : length (take j queue) ≡ j = part_long queue part.queue j ej ∙ sym ej in
       let low : min part.queue (length queue) ≤ length queue = min-le_right _ _ in
       whole r (larger L R) (max n m) j queue ys (when_more r (λ w. let z = ready n m L R _ _ w in (z.same, subst (λ (x : ℕ). larger L R ≤ x) long z.queue)) free) (omega (arith, ej, low)) (len ∙ long) h
+
+-- What is told of a result is its answer.
+pub answer_is : {A : Type 0} (of : Result A Fault → Answer) (r : Result A Fault) (a : Answer) (Q : A → Type 0) (E : Fault → Type 0)
+    → ((x : A) → Q x → a ≡ of (Ok x)) → ((f : Fault) → E f → a ≡ of (Err f)) → MatchResult r Q E → a ≡ of r
+answer_is of (Ok x) a Q E f g h = f x h
+answer_is of (Err y) a Q E f g h = g y h
 
 -- The same, by the answer.
 pub by_verdict : (r : Result Verdict Fault) (a : Answer) (n : ℕ) (xs ys : List ℕ) → a ≡ of_verdict r → Left r n xs ys → LeftBy a n xs ys

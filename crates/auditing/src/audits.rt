@@ -20,7 +20,7 @@ pub struct Question<'a, 'b, A, B> {
 }
 
 // What a sheet said of two models.
-#[derive(Drop)]
+#[derive(Clone, Copy, Debug, PartialEq, Eq)]
 pub struct Said {
     pub verdict: Result<Verdict, Fault>,
     pub reply: Result<Option<Reply>, Fault>,
@@ -49,8 +49,9 @@ pub fn audit<
     ensures { Audited L.TransitionSystem.meaning R.TransitionSystem.meaning bytes.entry (rows_for (L.TransitionSystem.meaning first.now) (R.TransitionSystem.meaning second.now) (length bytes.old)) (columns_for (L.TransitionSystem.meaning first.now) (R.TransitionSystem.meaning second.now) (length bytes.old)) calls.now (A.TransitionSystem.meaning question.now.left.now) (B.TransitionSystem.meaning question.now.right.now) question.now.ask (record { marks = marks.entry.now; queue = queue.old }) (record { marks = marks.exit.now; queue = queue.new }) answers.new said.new result }
 {
     let mut sheet = Sheet::open(bytes, first, second);
-    for i in 0..calls.len() {
-        let answer = make(&mut sheet, &calls[i], marks, queue);
+    for (i, call) in calls.iter().enumerate() {
+        let answer = make(&mut sheet, call, marks, queue);
+        // Kept: after a write through `answers.get_mut(i)` a proof no longer knows the other answers.
         if i < answers.len() {
             answers[i] = answer;
         }

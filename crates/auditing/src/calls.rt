@@ -5,7 +5,7 @@ use transitions::replies::Reply;
 use transitions::verdicts::Verdict;
 
 // How many entries of the marks and of the queue a call is lent, at most all.
-#[derive(Clone, Copy)]
+#[derive(Clone, Copy, Debug, PartialEq, Eq)]
 pub struct Lent {
     pub marks: usize,
     pub queue: usize,
@@ -42,7 +42,7 @@ pub enum Call<'a, L, R> {
     },
 }
 
-#[derive(Clone, Copy)]
+#[derive(Clone, Copy, Debug, PartialEq, Eq)]
 pub enum Answer {
     Done,
     Judged(Verdict),

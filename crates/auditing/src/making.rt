@@ -1,7 +1,7 @@
 // One call of any kind.
 ghost use Rattle.std.specs.Prelude.{◌≡◌, max, length};
 ghost use Rattle.auditing.specs.Plain.{next};
-ghost use Rattle.auditing.specs.Telling.{Tells, JudgeTells, WithoutTells, ReplyTells, of_change, of_verdict, of_reply, LeftBy};
+ghost use Rattle.auditing.specs.Telling.{Tells, JudgeTells, WithoutTells, ReplyTells, of_change, LeftBy};
 ghost use Rattle.sheets.specs.Sheets.{standing as pairs, rows_of, columns_of, Kept};
 
 use crate::calls::{Answer, Call, Lent};
@@ -9,35 +9,15 @@ use judging::replies::Ask;
 use models::systems::TransitionSystem;
 use pairings::faults::Fault;
 use sheets::sheet::Sheet;
-use transitions::replies::Reply;
-use transitions::verdicts::Verdict;
 
-fn answer_of_change(r: Result<(), Fault>) -> Answer
-    ensures { result ≡ of_change r }
+// What pair and unpair tell.
+fn answer_of_change(change: Result<(), Fault>) -> Answer
+    ensures { result ≡ of_change change }
 {
-    match r {
-        Ok(_) => Answer::Done,
-        Err(fault) => Answer::Refused(fault),
-    }
+    change.map_or_else(Answer::Refused, |()| Answer::Done)
 }
 
-fn answer_of_verdict(r: Result<Verdict, Fault>) -> Answer
-    ensures { result ≡ of_verdict r }
-{
-    match r {
-        Ok(verdict) => Answer::Judged(verdict),
-        Err(fault) => Answer::Refused(fault),
-    }
-}
-
-fn answer_of_reply(r: Result<Option<Reply>, Fault>) -> Answer
-    ensures { result ≡ of_reply r }
-{
-    match r {
-        Ok(reply) => Answer::Replied(reply),
-        Err(fault) => Answer::Refused(fault),
-    }
-}
+// Kept: the three cuts of the scratch: a function that returns such a part of a row gets no proof of what it lends.
 
 // The verdict, in the part of the scratch that is lent.
 fn judge_lent<L: TransitionSystem, R: TransitionSystem>(
@@ -54,7 +34,8 @@ fn judge_lent<L: TransitionSystem, R: TransitionSystem>(
 {
     let m = lent.marks.min(marks.len());
     let q = lent.queue.min(queue.len());
-    answer_of_verdict(sheet.judge(left, right, &mut marks[0..m], &mut queue[0..q]))
+    let verdict = sheet.judge(left, right, &mut marks[..m], &mut queue[..q]);
+    verdict.map_or_else(Answer::Refused, Answer::Judged)
 }
 
 // The verdict with a pair out, in the part of the scratch that is lent.
@@ -76,7 +57,8 @@ fn without_lent<L: TransitionSystem, R: TransitionSystem>(
 {
     let m = lent.marks.min(marks.len());
     let q = lent.queue.min(queue.len());
-    answer_of_verdict(sheet.without(left, right, s, t, &mut marks[0..m], &mut queue[0..q]))
+    let verdict = sheet.without(left, right, s, t, &mut marks[..m], &mut queue[..q]);
+    verdict.map_or_else(Answer::Refused, Answer::Judged)
 }
 
 // The reply, in the part of the scratch that is lent.
@@ -95,7 +77,8 @@ fn reply_lent<L: TransitionSystem, R: TransitionSystem>(
 {
     let m = lent.marks.min(marks.len());
     let q = lent.queue.min(queue.len());
-    answer_of_reply(sheet.reply(left, right, ask, &mut marks[0..m], &mut queue[0..q]))
+    let reply = sheet.reply(left, right, ask, &mut marks[..m], &mut queue[..q]);
+    reply.map_or_else(Answer::Refused, Answer::Replied)
 }
 
 // Makes the call, and tells its answer.

@@ -1,6 +1,6 @@
 -- From what the judge found, part by part, to the verdict.
-use Rattle.std.proofs.Common.{◌≡◌, ℕ, ◌+◌, ◌<◌, ◌≤◌, Bool, true, false, ◌⊎◌, [], ◌∷◌, Some, None, sym, refl, ap, ◌∙◌, subst, inl, inr, ⊎_elim, arith}
-use Rattle.std.proofs.lemmas.Bool.{false≢true, cases_lt, cases_eq}
+use Rattle.std.proofs.Common.{◌≡◌, ℕ, ◌<◌, ◌≤◌, Bool, true, ◌⊎◌, [], ◌∷◌, Some, None, Ok, Err, sym, refl, ap, ◌∙◌, subst, inl, inr, ⊎_elim, arith}
+use Rattle.std.proofs.lemmas.Bool.{cases_lt}
 use Rattle.transitions.specs.declared.verdicts.Side.TheVariants.{Left, Right}
 use Rattle.transitions.specs.declared.verdicts.Counterexample.{Counterexample}
 use Rattle.transitions.specs.declared.verdicts.Counterexample.TheVariants.{StartMissing, StepUnanswered, EndUnanswered, RootUnanswered}
@@ -32,7 +32,7 @@ module _ (L R : Lts) (B : Pairing) (s t : ℕ) where
       record { lefts = λ q h w st. absurd (out st); rights = λ q h w st. absurd (out st); left_end = λ w st. absurd (out st); right_end = λ w st. absurd (out st) }
 
 module _ (L R : Lts) (B : Pairing) (s t : ℕ) (hs : s < L.states) (ht : t < R.states) (st : Stands B s t) where
-  pub left_step : (p : ℕ) → Lowest L.width (AtPlace L R B s t) (Some p) → PairJudged L R B s t (Some (StepUnanswered s t Left p))
+  pub left_step : (p : ℕ) → Lowest L.width (AtPlace L R B s t) (Some p) → PairJudged L R B s t (Err (StepUnanswered s t Left p))
   left_step p (hp, out, low) start before =
       first_in_pair L R B s t 0 p start before
       (record {
@@ -44,7 +44,7 @@ module _ (L R : Lts) (B : Pairing) (s t : ℕ) (hs : s < L.states) (ht : t < R.s
       (StepUnanswered s t Left p) refl (hs, ht, hp) (λ h. out (h st))
 
   module _ (lefts : Lowest L.width (AtPlace L R B s t) None) where
-    pub right_step : (p : ℕ) → Lowest R.width (AtPlace R L (flip B) t s) (Some p) → PairJudged L R B s t (Some (StepUnanswered s t Right p))
+    pub right_step : (p : ℕ) → Lowest R.width (AtPlace R L (flip B) t s) (Some p) → PairJudged L R B s t (Err (StepUnanswered s t Right p))
     right_step p (hp, out, low) start before =
         first_in_pair L R B s t 1 p start before
         (record {
@@ -56,7 +56,7 @@ module _ (L R : Lts) (B : Pairing) (s t : ℕ) (hs : s < L.states) (ht : t < R.s
         (StepUnanswered s t Right p) refl (hs, ht, hp) (λ h. out (h st))
 
     module _ (rights : Lowest R.width (AtPlace R L (flip B) t s) None) where
-      pub left_end : (AtEnd L R B s t → ⊥) → PairJudged L R B s t (Some (EndUnanswered s t Left))
+      pub left_end : (AtEnd L R B s t → ⊥) → PairJudged L R B s t (Err (EndUnanswered s t Left))
       left_end out start before =
           first_in_pair L R B s t 2 0 start before
           (record {
@@ -68,7 +68,7 @@ module _ (L R : Lts) (B : Pairing) (s t : ℕ) (hs : s < L.states) (ht : t < R.s
           (EndUnanswered s t Left) refl (hs, ht) (λ h. out (h st))
 
       module _ (ended : AtEnd L R B s t) where
-        pub right_end : (AtEnd R L (flip B) t s → ⊥) → PairJudged L R B s t (Some (EndUnanswered s t Right))
+        pub right_end : (AtEnd R L (flip B) t s → ⊥) → PairJudged L R B s t (Err (EndUnanswered s t Right))
         right_end out start before =
             first_in_pair L R B s t 3 0 start before
             (record {
@@ -78,10 +78,6 @@ module _ (L R : Lts) (B : Pairing) (s t : ℕ) (hs : s < L.states) (ht : t < R.s
               right_end = λ w. not_here 3 w;
             })
             (EndUnanswered s t Right) refl (hs, ht) (λ h. out (h st))
-
-        pub all_answered : AtEnd R L (flip B) t s → PairJudged L R B s t None
-        all_answered ended' =
-            record { lefts = λ q h w _. lefts q h; rights = λ q h w _. rights q h; left_end = λ w _. ended; right_end = λ w _. ended' }
 
 -- ---- a row of pairs
 
@@ -95,18 +91,14 @@ module _ (L R : Lts) (B : Pairing) (s : ℕ) where
   row_passed n t row none u h =
       ⊎_elim (λ (l : u < n). row u l) (λ (l : n ≤ u). unpaired L R B s u (none u l h)) (cases_lt u n)
 
-  pub row_more : (n t : ℕ) → RowUpto n → NoneFrom (B s) n t → Upto L R B s t 4 0 → RowUpto (t + 1)
-  row_more n t row none here u h =
-      ⊎_elim (λ (e : u ≡ t). subst (λ (x : ℕ). Upto L R B s x 4 0) (sym e) here) (λ (ne : u ≡ t → ⊥). row_passed n t row none u (omega (arith, ne))) (cases_eq u t)
-
-  pub row_broken : (n t : ℕ) (k : Counterexample) → RowUpto n → NoneFrom (B s) n t → PairJudged L R B s t (Some k) → RowJudged L R B s (Some k)
+  pub row_broken : (n t : ℕ) (k : Counterexample) → RowUpto n → NoneFrom (B s) n t → PairJudged L R B s t (Err k) → RowJudged L R B s (Err k)
   row_broken n t k row none judged start before = judged start pairs
     where
       pairs : PairsBefore L R B s t
       pairs s' t' hs ht (inl h) = before s' t' hs ht (inl h)
       pairs s' t' hs ht (inr (e, h)) = subst (λ (x : ℕ). Upto L R B x t' 4 0) (sym e) (row_passed n t row none t' h)
 
-pub rows_broken : (L R : Lts) (B : Pairing) (s : ℕ) (k : Counterexample) → ((x : ℕ) → x < s → RowJudged L R B x None) → RowJudged L R B s (Some k) → RowsJudged L R B (Some k)
+pub rows_broken : (L R : Lts) (B : Pairing) (s : ℕ) (k : Counterexample) → ((x : ℕ) → x < s → RowJudged L R B x (Ok tt)) → RowJudged L R B s (Err k) → RowsJudged L R B (Err k)
 rows_broken L R B s k rows judged start = judged start pairs
   where
     pairs : PairsBefore L R B s 0
@@ -116,18 +108,6 @@ rows_broken L R B s k rows judged start = judged start pairs
 -- ---- the start and the root
 
 module _ (L R : Lts) (B : Pairing) where
-  start_earlier : (j : Counterexample) → Lex (rank j) (0 ∷ 0 ∷ 0 ∷ 0 ∷ 0 ∷ []) → Holds L R B j
-  start_earlier (StartMissing s t) h = absurd (omega arith)
-  start_earlier (StepUnanswered s t Left q) h = absurd (omega arith)
-  start_earlier (StepUnanswered s t Right q) h = absurd (omega arith)
-  start_earlier (EndUnanswered s t Left) h = absurd (omega arith)
-  start_earlier (EndUnanswered s t Right) h = absurd (omega arith)
-  start_earlier (RootUnanswered s t Left q) h = absurd (omega arith)
-  start_earlier (RootUnanswered s t Right q) h = absurd (omega arith)
-
-  start_first : B L.start R.start ≡ false → First L R B (StartMissing L.start R.start)
-  start_first out = record { proper = (refl, refl); broken = λ h. false≢true (sym out ∙ h); earlier = λ j pr lx. start_earlier j lx }
-
   root_lex : (c d q p : ℕ) → Lex (2 ∷ 0 ∷ 0 ∷ c ∷ q ∷ []) (2 ∷ 0 ∷ 0 ∷ d ∷ p ∷ []) → (c < d) ⊎ ((c ≡ d) × (q < p))
   root_lex c d q p (inl h) = absurd (omega arith)
   root_lex c d q p (inr (e, inl h)) = absurd (omega arith)
@@ -136,7 +116,7 @@ module _ (L R : Lts) (B : Pairing) where
   root_lex c d q p (inr (e, inr (f, inr (g, inr (h, inl i))))) = inr (h, i)
   root_lex c d q p (inr (e, inr (f, inr (g, inr (h, inr (i, j)))))) = absurd j
 
-  module _ (start : Stands B L.start R.start) (rows : RowsJudged L R B None) where
+  module _ (start : Stands B L.start R.start) (rows : RowsJudged L R B (Ok tt)) where
     root_earlier : (d p : ℕ)
         → ((q : ℕ) → q < L.width → (0 < d) ⊎ ((0 ≡ d) × (q < p)) → AtRoot L R B L.start q)
         → ((q : ℕ) → q < R.width → (1 < d) ⊎ ((1 ≡ d) × (q < p)) → AtRoot R L (flip B) R.start q)
@@ -186,11 +166,8 @@ module _ (L R : Lts) (B : Pairing) (s t : ℕ) (sl : s ≡ L.start) (tr : t ≡ 
   carried : (k : ℕ → ℕ → Counterexample) → First L R B (k L.start R.start) → First L R B (k s t)
   carried k h = subst (λ (x : ℕ). First L R B (k x t)) (sym sl) (subst (λ (y : ℕ). First L R B (k L.start y)) (sym tr) h)
 
-  pub missing : B s t ≡ false → First L R B (StartMissing s t)
-  missing h = carried StartMissing (start_first L R B (started false h))
-
-  pub unrooted_left : (p : ℕ) → B s t ≡ true → RowsJudged L R B None → Lowest L.width (AtRoot L R B L.start) (Some p) → First L R B (RootUnanswered s t Left p)
+  pub unrooted_left : (p : ℕ) → B s t ≡ true → RowsJudged L R B (Ok tt) → Lowest L.width (AtRoot L R B L.start) (Some p) → First L R B (RootUnanswered s t Left p)
   unrooted_left p h rows low = carried (λ x y. RootUnanswered x y Left p) (left_root L R B (started true h) rows p low)
 
-  pub unrooted_right : (p : ℕ) → B s t ≡ true → RowsJudged L R B None → Lowest L.width (AtRoot L R B L.start) None → Lowest R.width (AtRoot R L (flip B) R.start) (Some p) → First L R B (RootUnanswered s t Right p)
+  pub unrooted_right : (p : ℕ) → B s t ≡ true → RowsJudged L R B (Ok tt) → Lowest L.width (AtRoot L R B L.start) None → Lowest R.width (AtRoot R L (flip B) R.start) (Some p) → First L R B (RootUnanswered s t Right p)
   unrooted_right p h rows lefts low = carried (λ x y. RootUnanswered x y Right p) (right_root L R B (started true h) rows lefts p low)

@@ -1,6 +1,6 @@
 -- From the hits of a search to a reply.
-use Rattle.std.proofs.Common.{◌≡◌, ℕ, ◌<◌, Bool, true, false, cond, ◌&&◌, eqb, ltb, Some, None, Option, sym, refl, ap, ◌∙◌, subst, arith}
-use Rattle.std.proofs.lemmas.Bool.{and_parts, and_from, false≢true, eqb-true, eq-eqb, ne_eqb, ltb-true}
+use Rattle.std.proofs.Common.{◌≡◌, ℕ, ◌<◌, Bool, true, false, cond, ◌&&◌, eqb, ltb, Some, None, Option, sym, refl, ap, ◌∙◌, arith}
+use Rattle.std.proofs.lemmas.Bool.{and_parts, and_from, false≢true, eqb-true, eq-eqb, ltb-true}
 use Rattle.pairings.specs.declared.faults.Fault.{Fault}
 use Rattle.pairings.specs.declared.faults.Fault.TheVariants.{NoState, Missing}
 use Rattle.transitions.specs.declared.steps.Step.{Step}
@@ -61,7 +61,7 @@ none_both a b e f = ap (λ (x : Option Fault). or_else x b) e ∙ f
 -- The reply is that of the side that is asked.
 module _ (L R : Lts) (B : Pairing) (a : Ask) (x : Step) (r : Option Reply) where
   pub by_left : a.side ≡ 0 → ReplyIs R B a.s a.t x r → RepliesTo L R B a x r
-  by_left e h = subst (λ (b : Bool). cond b (ReplyIs R B a.s a.t x r) (ReplyIs L (flip B) a.t a.s x r)) (sym (eq-eqb a.side 0 e)) h
+  by_left e h = rw e h
 
-  pub by_right : (a.side ≡ 0 → ⊥) → ReplyIs L (flip B) a.t a.s x r → RepliesTo L R B a x r
-  by_right e h = subst (λ (b : Bool). cond b (ReplyIs R B a.s a.t x r) (ReplyIs L (flip B) a.t a.s x r)) (sym (ne_eqb a.side 0 e)) h
+  pub by_right : a.side ≡ 1 → ReplyIs L (flip B) a.t a.s x r → RepliesTo L R B a x r
+  by_right e h = rw e h

@@ -31,6 +31,11 @@ too_short L R z = too_few L R (length z.marks) (length z.queue)
 abbrev pub refusal : Lts → Lts → Scratch → Option Fault
 refusal L R z = cond (L.states == 0 || R.states == 0) (Some Blank) (too_short L R z)
 
+-- A check passes where nothing refuses, and else gives the reason.
+abbrev pub Checks : Option Fault → Result (Unit {0}) Fault → Type 0
+Checks why (Ok _) = why ≡ None
+Checks why (Err fault) = why ≡ Some fault
+
 -- The verdict on the pairing, or the refusal.
 abbrev pub Says : Option Fault → Lts → Lts → Pairing → Result Verdict Fault → Type 0
 Says why L R B (Ok v) = (why ≡ None) × VerdictIs L R B v

@@ -1,9 +1,8 @@
 -- What the parts of the judge say: of one condition, of the places of a state, of a pair, of a row of pairs, of all pairs.
-use Rattle.std.specs.Prelude.{ℕ, ◌<◌, Bool, true, false, Some, None, Option}
-use Rattle.transitions.specs.declared.verdicts.Counterexample.{Counterexample}
+use Rattle.std.specs.Prelude.{ℕ, ◌<◌, Bool, true, false, Some, None, Ok, Err, Option}
 use Rattle.transitions.specs.Lts.{Lts}
 use Rattle.transitions.specs.Match.{Pairing, Stands}
-use Rattle.transitions.specs.Verdict.{First}
+use Rattle.transitions.specs.Verdict.{First, Verdict}
 use Rattle.transitions.proofs.Firsts.{Upto, PairsBefore}
 
 -- The test tells whether P holds.
@@ -18,16 +17,16 @@ Lowest w P (Some p) = (p < w) × (P p → ⊥) × ((q : ℕ) → q < p → P q)
 
 -- All conditions of the pair (s, t) hold, or k is the first broken one of all if the start pair stands and those of the pairs
 -- before it hold.
-abbrev pub PairJudged : Lts → Lts → Pairing → ℕ → ℕ → Option Counterexample → Type 0
-PairJudged L R B s t None = Upto L R B s t 4 0
-PairJudged L R B s t (Some k) = Stands B L.start R.start → PairsBefore L R B s t → First L R B k
+abbrev pub PairJudged : Lts → Lts → Pairing → ℕ → ℕ → Verdict → Type 0
+PairJudged L R B s t (Ok _) = Upto L R B s t 4 0
+PairJudged L R B s t (Err k) = Stands B L.start R.start → PairsBefore L R B s t → First L R B k
 
 -- The same of the pairs of s.
-abbrev pub RowJudged : Lts → Lts → Pairing → ℕ → Option Counterexample → Type 0
-RowJudged L R B s None = (t : ℕ) → t < R.states → Upto L R B s t 4 0
-RowJudged L R B s (Some k) = Stands B L.start R.start → PairsBefore L R B s 0 → First L R B k
+abbrev pub RowJudged : Lts → Lts → Pairing → ℕ → Verdict → Type 0
+RowJudged L R B s (Ok _) = (t : ℕ) → t < R.states → Upto L R B s t 4 0
+RowJudged L R B s (Err k) = Stands B L.start R.start → PairsBefore L R B s 0 → First L R B k
 
 -- The same of all pairs.
-abbrev pub RowsJudged : Lts → Lts → Pairing → Option Counterexample → Type 0
-RowsJudged L R B None = (s : ℕ) → s < L.states → (t : ℕ) → t < R.states → Upto L R B s t 4 0
-RowsJudged L R B (Some k) = Stands B L.start R.start → First L R B k
+abbrev pub RowsJudged : Lts → Lts → Pairing → Verdict → Type 0
+RowsJudged L R B (Ok _) = (s : ℕ) → s < L.states → (t : ℕ) → t < R.states → Upto L R B s t 4 0
+RowsJudged L R B (Err k) = Stands B L.start R.start → First L R B k

@@ -5,10 +5,12 @@ use Rattle.pairings.specs.declared.faults.Fault.TheVariants.{NoState, NoSide, No
 use Rattle.judging.specs.declared.replies.Ask.{Ask}
 use Rattle.judging.specs.Judged.{Scratch, larger, refusal, Left}
 use Rattle.transitions.specs.declared.steps.Step.{Step}
+use Rattle.transitions.specs.declared.verdicts.Side.{Side}
 use Rattle.transitions.specs.declared.replies.Reply.{Reply}
 use Rattle.transitions.specs.Lts.{Lts}
 use Rattle.transitions.specs.Match.{Pairing, flip}
 use Rattle.transitions.specs.Reply.{ReplyIs}
+use Rattle.transitions.specs.Verdict.{side_number}
 
 -- The first reason of the two.
 abbrev pub or_else : Option Fault → Option Fault → Option Fault
@@ -43,15 +45,21 @@ unasked L R B a = or_else (unsided a.side) (or_else (unpaired L.states R.states 
 abbrev pub reply_refusal : Lts → Lts → Pairing → Scratch → Ask → Option Fault
 reply_refusal L R B z a = or_else (refusal L R z) (unasked L R B a)
 
--- The step x is asked about.
-pub record Asked (L R : Lts) (B : Pairing) (a : Ask) (x : Step) : Type 0 where
+-- The side of a number, or the refusal.
+abbrev pub Names : ℕ → Result Side Fault → Type 0
+Names n (Ok side) = (unsided n ≡ None) × (n ≡ side_number side)
+Names n (Err fault) = unsided n ≡ Some fault
+
+-- The step x of this side is asked about.
+pub record Asked (L R : Lts) (B : Pairing) (a : Ask) (side : Side) (x : Step) : Type 0 where
   pub free : unasked L R B a ≡ None
+  pub asking : a.side ≡ side_number side
   pub step : wanted L R a ≡ Some x
   pub left : a.s < L.states
   pub right : a.t < R.states
 
-abbrev pub Asks : Lts → Lts → Pairing → Ask → Result Step Fault → Type 0
-Asks L R B a (Ok x) = Asked L R B a x
+abbrev pub Asks : Lts → Lts → Pairing → Ask → Result (Side × Step) Fault → Type 0
+Asks L R B a (Ok (side, x)) = Asked L R B a side x
 Asks L R B a (Err fault) = unasked L R B a ≡ Some fault
 
 -- The other state of the pair replies r to the step x of the asking one.

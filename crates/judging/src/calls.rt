@@ -1,32 +1,42 @@
 // The public call.
 ghost use Rattle.std.specs.Prelude.{◌≡◌, max, None};
-ghost use Rattle.judging.specs.Judged.{Judged, refusal};
+ghost use Rattle.judging.specs.Judged.{Judged, Checks, refusal, too_short};
 
-use crate::verdict::judge_in;
+use crate::comparison::Comparison;
 use models::systems::TransitionSystem;
 use pairings::faults::Fault;
 use pairings::standing::Pairing;
 use transitions::verdicts::Verdict;
 
-// Why the models cannot be judged in scratch of these lengths.
-pub(crate) fn unready<L: TransitionSystem, R: TransitionSystem>(
+// Refuses marks or a queue that are shorter than the larger size.
+pub fn check_scratch<L: TransitionSystem, R: TransitionSystem>(
     left: &L,
     right: &R,
     marks: &[u8],
     queue: &[u16],
-) -> Option<Fault>
-    ensures { result ≡ refusal (L.TransitionSystem.meaning left.now) (R.TransitionSystem.meaning right.now) (record { marks = marks.entry.now; queue = queue.now }) }
+) -> Result<(), Fault>
+    ensures { Checks (too_short (L.TransitionSystem.meaning left.now) (R.TransitionSystem.meaning right.now) (record { marks = marks.entry.now; queue = queue.now })) result }
 {
-    let l = left.states();
-    let r = right.states();
-    if l == 0 || r == 0 {
-        return Some(Fault::Blank);
-    }
-    let n = l.max(r);
+    let n = left.states().max(right.states());
     if marks.len() < n || queue.len() < n {
-        return Some(Fault::Short);
+        return Err(Fault::Short);
     }
-    None
+    Ok(())
+}
+
+// Refuses models that cannot be judged, and scratch of these lengths that is too short for them.
+pub(crate) fn check_ready<L: TransitionSystem, R: TransitionSystem>(
+    left: &L,
+    right: &R,
+    marks: &[u8],
+    queue: &[u16],
+) -> Result<(), Fault>
+    ensures { Checks (refusal (L.TransitionSystem.meaning left.now) (R.TransitionSystem.meaning right.now) (record { marks = marks.entry.now; queue = queue.now })) result }
+{
+    if left.states() == 0 || right.states() == 0 {
+        return Err(Fault::Blank);
+    }
+    check_scratch(left, right, marks, queue)
 }
 
 // The verdict on the pairing of two models: a match exactly when the standing pairs are one, else the first broken condition.
@@ -41,9 +51,12 @@ pub fn judge<L: TransitionSystem, R: TransitionSystem, P: Pairing>(
 ) -> Result<Verdict, Fault>
     ensures { Judged (refusal (L.TransitionSystem.meaning left.now) (R.TransitionSystem.meaning right.now) (record { marks = marks.entry.now; queue = queue.old })) (L.TransitionSystem.meaning left.now) (R.TransitionSystem.meaning right.now) (P.standing pairing.now) (record { marks = marks.entry.now; queue = queue.old }) (record { marks = marks.exit.now; queue = queue.new }) result }
 {
-    if let Some(fault) = unready(left, right, marks, queue) {
-        return Err(fault);
-    }
+    check_ready(left, right, marks, queue)?;
     let n = left.states().max(right.states());
-    Ok(judge_in(left, right, pairing, &mut marks[0..n], &mut queue[0..n]))
+    let comparison = Comparison {
+        left,
+        right,
+        pairing,
+    };
+    Ok(comparison.judge_in(&mut marks[..n], &mut queue[..n]))
 }

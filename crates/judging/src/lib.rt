@@ -3,6 +3,7 @@
 
 mod answering;
 pub mod calls;
+mod comparison;
 mod pairs;
 mod queries;
 pub mod replies;

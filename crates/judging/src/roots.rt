@@ -3,6 +3,7 @@ ghost use Rattle.judging.specs.Parts.{Tells, Lowest};
 ghost use Rattle.transitions.specs.Match.{Rooted};
 ghost use Rattle.transitions.specs.Verdict.{AtRoot};
 
+use crate::comparison::Comparison;
 use crate::queries::lands;
 use models::systems::TransitionSystem;
 use pairings::standing::Pairing;
@@ -13,41 +14,23 @@ fn answers_root<R: TransitionSystem, P: Pairing>(right: &R, pairing: &P, want: S
     ensures { Tells result (Rooted (R.meaning right.now) (P.standing pairing.now) want.action want.target) }
 {
     let start = right.start();
-    for place in 0..right.width() {
-        if lands(pairing, want, right.step(start, place)) {
-            return true;
-        }
-    }
-    false
+    (0..right.width()).any(|place| lands(pairing, want, right.step(start, place)))
 }
 
-// Whether the step of the left start at a place, if there is one, is answered.
-fn answers_root_place<L: TransitionSystem, R: TransitionSystem, P: Pairing>(
-    left: &L,
-    right: &R,
-    pairing: &P,
-    place: usize,
-) -> bool
-    ensures { Tells result (AtRoot (L.TransitionSystem.meaning left.now) (R.TransitionSystem.meaning right.now) (P.standing pairing.now) (L.TransitionSystem.meaning left.now).start place) }
-{
-    match left.step(left.start(), place) {
-        Some(want) => answers_root(right, pairing, want),
-        None => true,
+impl<L: TransitionSystem, R: TransitionSystem, P: Pairing> Comparison<'_, L, R, P> {
+    // Whether the step of the left start at a place, if there is one, is answered.
+    fn answers_root_place(&self, place: usize) -> bool
+        ensures { Tells result (AtRoot (L.TransitionSystem.meaning self.now.left.now) (R.TransitionSystem.meaning self.now.right.now) (P.Pairing.standing self.now.pairing.now) (L.TransitionSystem.meaning self.now.left.now).start place) }
+    {
+        self.left
+            .step(self.left.start(), place)
+            .is_none_or(|want| answers_root(self.right, self.pairing, want))
     }
-}
 
-// The lowest place of the left start whose step is not answered.
-pub(crate) fn first_unrooted<L: TransitionSystem, R: TransitionSystem, P: Pairing>(
-    left: &L,
-    right: &R,
-    pairing: &P,
-) -> Option<usize>
-    ensures { Lowest (L.TransitionSystem.meaning left.now).width (AtRoot (L.TransitionSystem.meaning left.now) (R.TransitionSystem.meaning right.now) (P.standing pairing.now) (L.TransitionSystem.meaning left.now).start) result }
-{
-    for place in 0..left.width() {
-        if !answers_root_place(left, right, pairing, place) {
-            return Some(place);
-        }
+    // The lowest place of the left start whose step is not answered.
+    pub(crate) fn first_unrooted(&self) -> Option<usize>
+        ensures { Lowest (L.TransitionSystem.meaning self.now.left.now).width (AtRoot (L.TransitionSystem.meaning self.now.left.now) (R.TransitionSystem.meaning self.now.right.now) (P.Pairing.standing self.now.pairing.now) (L.TransitionSystem.meaning self.now.left.now).start) result }
+    {
+        (0..self.left.width()).find(|&place| !self.answers_root_place(place))
     }
-    None
 }

@@ -5,3 +5,4 @@ pub mod Sizing
 pub mod Refusals
 pub mod Opening
 pub mod Passing
+pub mod Clearing

@@ -1,5 +1,5 @@
 -- What the calls of a sheet promise.
-use Rattle.std.specs.Prelude.{◌≡◌, ℕ, ◌+◌, ◌*◌, Bool, false, cond, not, ◌&&◌, ◌||◌, List, length, Some, None, Ok, Err, Option, Result, ◌==◌, nat_le, nat_lt}
+use Rattle.std.specs.Prelude.{◌≡◌, ℕ, ◌+◌, ◌*◌, Bool, true, false, cond, not, ◌&&◌, ◌||◌, List, length, Some, None, Ok, Err, Option, Result, ◌==◌, nat_le, nat_lt}
 use Rattle.std.specs.Borrow.{MutBor}
 use Rattle.judging.specs.declared.replies.Ask.{Ask}
 use Rattle.judging.specs.Judged.{Scratch, too_few, Judged, Wiped}
@@ -52,6 +52,15 @@ pair_says n m B s t = cond (blank n m) (Err Blank) (cond (in_range n m s t) (con
 -- Refused with the first that holds: the sheet is blank, a state is not below its size, the pair does not stand.
 abbrev pub unpair_says : ℕ → ℕ → Pairing → ℕ → ℕ → Result (Unit {0}) Fault
 unpair_says n m B s t = cond (blank n m) (Err Blank) (cond (in_range n m s t) (cond (B s t) (Ok tt) (Err Missing)) (Err NoState))
+
+-- Why a pair has no bit: the sheet is blank, or a state is not below its size.
+abbrev pub bitless : ℕ → ℕ → ℕ → ℕ → Option Fault
+bitless n m s t = cond (blank n m) (Some Blank) (cond (in_range n m s t) None (Some NoState))
+
+-- The pair's bit on a sheet of n by m, or the refusal.
+abbrev pub Numbers : ℕ → ℕ → ℕ → ℕ → Result ℕ Fault → Type 0
+Numbers n m s t (Ok i) = (blank n m ≡ false) × (in_range n m s t ≡ true) × (i ≡ s * m + t)
+Numbers n m s t (Err fault) = bitless n m s t ≡ Some fault
 
 -- A refusal leaves all as it was.
 abbrev pub settled : {A : Type 0} → Result (Unit {0}) Fault → A → A → A

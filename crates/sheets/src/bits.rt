@@ -4,13 +4,12 @@ ghost use Rattle.judging.specs.Judged.{Wiped};
 ghost use Rattle.sheets.specs.Bits.{with_bit, without_bit};
 
 // Sets the first n bytes to 0.
+#[tactic(auto, using(crate::proofs::Clearing::wiped_fill))]
 pub(crate) fn clear(bytes: &mut [u8], n: usize)
     requires { n ≤ length bytes.old }
     ensures { Wiped n bytes.old bytes.new }
 {
-    for i in 0..n {
-        bytes[i] = 0;
-    }
+    bytes[..n].fill(0);
 }
 
 // Puts bit i in.

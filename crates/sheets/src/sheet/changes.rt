@@ -1,5 +1,6 @@
 // The calls that change one pair of a sheet.
-ghost use Rattle.sheets.specs.Calls.{Paired, Unpaired};
+ghost use Rattle.sheets.specs.Calls.{Numbers, Paired, Unpaired};
+ghost use Rattle.sheets.specs.Sheets.{rows_of, columns_of};
 
 use crate::bits::{put_bit, take_bit};
 use crate::sheet::Sheet;
@@ -7,10 +8,9 @@ use pairings::faults::Fault;
 use pairings::standing::Pairing;
 
 impl<'a> Sheet<'a> {
-    // Puts the pair (s, t) on the sheet. Refused, and then nothing changes, with the first that holds: the sheet is blank, a state
-    // is not below its size, the pair stands already.
-    pub fn pair(&mut self, s: usize, t: usize) -> Result<(), Fault>
-        ensures { Paired self.old self.new s t result }
+    // The number of the pair's bit. Refused with the first that holds: the sheet is blank, a state is not below its size.
+    fn bit_of(&self, s: usize, t: usize) -> Result<usize, Fault>
+        ensures { Numbers (rows_of self.now) (columns_of self.now) s t result }
     {
         let size = self.size.within(self.bytes.len());
         if size.is_blank() {
@@ -19,10 +19,18 @@ impl<'a> Sheet<'a> {
         if !size.has(s, t) {
             return Err(Fault::NoState);
         }
+        Ok(s * size.columns as usize + t)
+    }
+
+    // Puts the pair (s, t) on the sheet. Refused, and then nothing changes, with the first that holds: the sheet is blank, a state
+    // is not below its size, the pair stands already.
+    pub fn pair(&mut self, s: usize, t: usize) -> Result<(), Fault>
+        ensures { Paired self.old self.new s t result }
+    {
+        let i = self.bit_of(s, t)?;
         if self.stands(s, t) {
             return Err(Fault::Stands);
         }
-        let i = s * size.columns as usize + t;
         put_bit(self.bytes, i);
         Ok(())
     }
@@ -32,17 +40,10 @@ impl<'a> Sheet<'a> {
     pub fn unpair(&mut self, s: usize, t: usize) -> Result<(), Fault>
         ensures { Unpaired self.old self.new s t result }
     {
-        let size = self.size.within(self.bytes.len());
-        if size.is_blank() {
-            return Err(Fault::Blank);
-        }
-        if !size.has(s, t) {
-            return Err(Fault::NoState);
-        }
+        let i = self.bit_of(s, t)?;
         if !self.stands(s, t) {
             return Err(Fault::Missing);
         }
-        let i = s * size.columns as usize + t;
         take_bit(self.bytes, i);
         Ok(())
     }

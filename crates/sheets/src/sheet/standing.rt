@@ -47,6 +47,7 @@ pub(crate) fn next_in(
         return None;
     }
     let end = below.min(fitted.columns as usize);
+    // Kept: the step changes from turn to turn, which no range does; a `find` over all states would lose the jump over bytes.
     let mut t = from;
     while t < end {
         let passed = gap(bytes, s * fitted.columns as usize + t);

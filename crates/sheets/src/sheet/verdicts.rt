@@ -1,13 +1,13 @@
 // The judgements of a sheet.
 ghost use Rattle.std.specs.Prelude.{◌≡◌};
-ghost use Rattle.judging.specs.Judged.{Judged, too_short};
+ghost use Rattle.judging.specs.Judged.{Judged, Checks};
 ghost use Rattle.judging.specs.Replies.{Replied};
 ghost use Rattle.sheets.specs.Calls.{unfit, unpaired, judge_refusal, reply_refusal, JudgedWithout};
 ghost use Rattle.sheets.specs.Sheets.{standing as pairs, rows_of, columns_of};
 
 use crate::sheet::Sheet;
 use crate::sheet::lifting::judge_without;
-use judging::calls::judge;
+use judging::calls::{check_scratch, judge};
 use judging::replies::{Ask, reply};
 use models::systems::TransitionSystem;
 use pairings::faults::Fault;
@@ -15,52 +15,36 @@ use pairings::standing::Pairing;
 use transitions::replies::Reply;
 use transitions::verdicts::Verdict;
 
-// Why two models cannot be judged in scratch of these lengths.
-fn first_short<L: TransitionSystem, R: TransitionSystem>(
-    left: &L,
-    right: &R,
-    marks: &[u8],
-    queue: &[u16],
-) -> Option<Fault>
-    ensures { result ≡ too_short (L.TransitionSystem.meaning left.now) (R.TransitionSystem.meaning right.now) (record { marks = marks.entry.now; queue = queue.now }) }
-{
-    let n = left.states().max(right.states());
-    if marks.len() < n || queue.len() < n {
-        return Some(Fault::Short);
-    }
-    None
-}
-
 impl<'a> Sheet<'a> {
-    // Why two models cannot be judged on this sheet.
-    fn first_unfit<L: TransitionSystem, R: TransitionSystem>(
+    // Refuses two models that cannot be judged on this sheet.
+    fn check_models<L: TransitionSystem, R: TransitionSystem>(
         &self,
         left: &L,
         right: &R,
-    ) -> Option<Fault>
-        ensures { result ≡ unfit (rows_of self.now) (columns_of self.now) (L.TransitionSystem.meaning left.now) (R.TransitionSystem.meaning right.now) }
+    ) -> Result<(), Fault>
+        ensures { Checks (unfit (rows_of self.now) (columns_of self.now) (L.TransitionSystem.meaning left.now) (R.TransitionSystem.meaning right.now)) result }
     {
         let size = self.size.within(self.bytes.len());
         if size.is_blank() {
-            return Some(Fault::Blank);
+            return Err(Fault::Blank);
         }
         if left.states() != size.rows as usize || right.states() != size.columns as usize {
-            return Some(Fault::Sizes);
+            return Err(Fault::Sizes);
         }
-        None
+        Ok(())
     }
 
-    // Why the pair (s, t) cannot be left out.
-    fn first_unpaired(&self, s: usize, t: usize) -> Option<Fault>
-        ensures { result ≡ unpaired (rows_of self.now) (columns_of self.now) (pairs self.now) s t }
+    // Refuses a pair that cannot be left out.
+    fn check_pair(&self, s: usize, t: usize) -> Result<(), Fault>
+        ensures { Checks (unpaired (rows_of self.now) (columns_of self.now) (pairs self.now) s t) result }
     {
         if !self.size.within(self.bytes.len()).has(s, t) {
-            return Some(Fault::NoState);
+            return Err(Fault::NoState);
         }
         if !self.stands(s, t) {
-            return Some(Fault::Missing);
+            return Err(Fault::Missing);
         }
-        None
+        Ok(())
     }
 
     // The verdict on the standing pairs. Refused with the first that holds: the sheet is blank, the models' sizes are not its own,
@@ -74,9 +58,7 @@ impl<'a> Sheet<'a> {
     ) -> Result<Verdict, Fault>
         ensures { Judged (judge_refusal self.now (L.TransitionSystem.meaning left.now) (R.TransitionSystem.meaning right.now) (record { marks = marks.entry.now; queue = queue.old })) (L.TransitionSystem.meaning left.now) (R.TransitionSystem.meaning right.now) (pairs self.now) (record { marks = marks.entry.now; queue = queue.old }) (record { marks = marks.exit.now; queue = queue.new }) result }
     {
-        if let Some(fault) = self.first_unfit(left, right) {
-            return Err(fault);
-        }
+        self.check_models(left, right)?;
         judge(left, right, self, marks, queue)
     }
 
@@ -93,15 +75,9 @@ impl<'a> Sheet<'a> {
     ) -> Result<Verdict, Fault>
         ensures { JudgedWithout self.old self.new (L.TransitionSystem.meaning left.now) (R.TransitionSystem.meaning right.now) s t (record { marks = marks.entry.now; queue = queue.old }) (record { marks = marks.exit.now; queue = queue.new }) result }
     {
-        if let Some(fault) = self.first_unfit(left, right) {
-            return Err(fault);
-        }
-        if let Some(fault) = first_short(left, right, marks, queue) {
-            return Err(fault);
-        }
-        if let Some(fault) = self.first_unpaired(s, t) {
-            return Err(fault);
-        }
+        self.check_models(left, right)?;
+        check_scratch(left, right, marks, queue)?;
+        self.check_pair(s, t)?;
         let size = self.size;
         judge_without(left, right, self.bytes, size, s, t, marks, queue)
     }
@@ -118,9 +94,7 @@ impl<'a> Sheet<'a> {
     ) -> Result<Option<Reply>, Fault>
         ensures { Replied (reply_refusal self.now (L.TransitionSystem.meaning left.now) (R.TransitionSystem.meaning right.now) (record { marks = marks.entry.now; queue = queue.old }) ask) (L.TransitionSystem.meaning left.now) (R.TransitionSystem.meaning right.now) (pairs self.now) ask (record { marks = marks.entry.now; queue = queue.old }) (record { marks = marks.exit.now; queue = queue.new }) result }
     {
-        if let Some(fault) = self.first_unfit(left, right) {
-            return Err(fault);
-        }
+        self.check_models(left, right)?;
         reply(left, right, self, ask, marks, queue)
     }
 }

@@ -1,26 +1,38 @@
-use Rattle.std.proofs.Common.{sym, ◌∙◌, rules}
+use Rattle.std.proofs.Common.{sym, refl, ap, ◌∙◌, rules}
+use Rattle.std.proofs.lemmas.Result.{err_from_is_err_and}
 use Rattle.sheets.specs.Bits.{without_bit}
-use Rattle.sheets.specs.Sheets.{standing}
-use Rattle.sheets.proofs.Refusals.{unpair_ok}
-use Rattle.sheets.proofs.Sizing.{there, taken_stood, numbered}
+use Rattle.sheets.specs.Sheets.{standing, rows_of, columns_of}
+use Rattle.sheets.proofs.Refusals.{unpair_ok, unpair_refused}
+use Rattle.sheets.proofs.Sizing.{there, taken_stood}
 use Rattle.sheets.proofs.sheet.Sheet.unpair.Goals as goal
 
 pub take_bit-requires : goal.take_bit-requires
 take_bit-requires c =
-    there c.args.self.now.size c.args.self.now.bytes.now c.within-size.result.rows c.within-size.result.columns c.args.s c.args.t c.within-size.ensures.rows c.within-size.ensures.columns (sym c.if-not-has.ensures)
+    let v = c.args.self.now in
+    let numbers = c.in_ok-i.ensures in
+    rw numbers.2 (there v.size v.bytes.now (rows_of v) (columns_of v) c.args.s c.args.t refl refl numbers.1)
+
+pub returns-in_err-i : goal.returns-in_err-i
+returns-in_err-i c =
+    let v = c.args.self.now in
+    let p = err_from_is_err_and c.from_residual.result c.from_residual.ensures.1 in
+    rw (p.1, p.2) (record {
+      says = sym (unpair_refused (rows_of v) (columns_of v) (standing v) c.args.s c.args.t _ c.in_err-i.ensures);
+      pairs = refl;
+      bytes = refl;
+      kept = search rules;
+    })
 
 pub returns : goal.returns
 returns c =
     let v = c.args.self.now in
-    let n = c.within-size.result.rows in
-    let m = c.within-size.result.columns in
-    let en = c.within-size.ensures.rows in
-    let em = c.within-size.ensures.columns in
-    let has = sym c.if-not-has.ensures in
-    let made = c.take_bit.ensures in
+    let n = rows_of v in
+    let m = columns_of v in
+    let numbers = c.in_ok-i.ensures in
+    let made = c.take_bit.ensures ∙ ap (without_bit v.bytes.now) numbers.2 in
     record {
-      says = unpair_ok n m _ _ (standing v) _ _ en em (sym c.if-is_blank.ensures) has (sym c.if-not-stands.ensures);
-      pairs = taken_stood v.size v.bytes.now n m _ _ en em has _ made;
-      bytes = made ∙ numbered v.size v.bytes.now n m _ _ en em has (without_bit v.bytes.now);
+      says = sym (unpair_ok n m (standing v) _ _ numbers.0 numbers.1 (sym c.if-not-stands.ensures));
+      pairs = taken_stood v.size v.bytes.now n m _ _ refl refl numbers.1 _ made;
+      bytes = made;
       kept = search rules;
     }

@@ -1,9 +1,0 @@
-use Rattle.std.proofs.Common.{ℕ, ◌<◌}
-use Rattle.transitions.specs.Verdict.{AtPlace}
-use Rattle.judging.specs.Scratch.{Clean}
-use Rattle.judging.proofs.answering.first_unanswered.Given as goal
-
-abbrev pub invariant-loop-place : goal.invariant-loop-place
-invariant-loop-place g l =
-    Clean l.marks l.queue
-    × ((p : ℕ) → p < l.place → AtPlace (g.L.TransitionSystem.meaning l.left) (g.R.TransitionSystem.meaning l.right) (g.P.Pairing.standing l.pairing) l.s l.t p)
