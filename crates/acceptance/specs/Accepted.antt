@@ -2,7 +2,7 @@
 -- variable here is below 256.
 use Rattle.std.specs.Prelude.{◌≡◌, ℕ, ◌+◌, ◌%◌, ◌<◌, ◌≤◌, List, length, slice_index_or}
 use mathlib.Core.List.{Memᴰ}
-use Rattle.rows.specs.Found.{Differ}
+use Rattle.rows.specs.Found.{NoneTwice}
 use Rattle.processes.specs.declared.equations.Equation.{Equation}
 use Rattle.processes.specs.declared.equations.Equation.TheVariants.{Ends, Becomes}
 use Rattle.processes.specs.declared.terms.Term.{Term}
@@ -55,9 +55,9 @@ pub record Accepted (lines : List JoinLine) (equations : List Equation) (terms :
   pub lines_fit : Acceptable lines
   pub equations_few : length equations ≤ 1024
   pub equations_fit : (k : ℕ) → k < length equations → EquationFits (equation_at equations k)
-  pub equations_once : Differ equations
+  pub equations_once : NoneTwice equations
   pub no_ring : NoRing equations
   pub terms_few : length terms ≤ 256
   pub terms_fit : (k : ℕ) → k < length terms → TermFits (k + 1) (entry_at terms k)
-  pub terms_once : Differ terms
+  pub terms_once : NoneTwice terms
   pub started : Earlier (length terms + 1) start

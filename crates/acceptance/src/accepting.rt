@@ -7,7 +7,7 @@ use crate::rings::has_no_ring;
 use actions::acceptance::is_acceptable;
 use processes::equations::Equation;
 use processes::terms::Term;
-use rows::all_differ;
+use rows::stand_once;
 use transitions::lines::JoinLine;
 
 pub fn is_accepted(lines: &[JoinLine], equations: &[Equation], terms: &[Term], start: usize) -> bool
@@ -25,7 +25,7 @@ pub fn is_accepted(lines: &[JoinLine], equations: &[Equation], terms: &[Term], s
     if !equations_fit(equations) {
         return false;
     }
-    if !all_differ(equations) {
+    if !stand_once(equations) {
         return false;
     }
     if !has_no_ring(equations) {
@@ -34,7 +34,7 @@ pub fn is_accepted(lines: &[JoinLine], equations: &[Equation], terms: &[Term], s
     if !terms_fit(terms) {
         return false;
     }
-    if !all_differ(terms) {
+    if !stand_once(terms) {
         return false;
     }
     is_earlier(terms.len() + 1, start)

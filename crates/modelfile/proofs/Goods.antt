@@ -4,7 +4,7 @@ use Rattle.std.proofs.lemmas.Bool.{not-false}
 use borrow.Author.Tests.{eqb-false}
 use Rattle.acceptance.specs.Accepted.{EquationFits, equation_at, Earlier, TermFits, entry_at}
 use Rattle.acceptance.specs.Walks.{silent_ring}
-use Rattle.rows.specs.Found.{Differ}
+use Rattle.rows.specs.Found.{NoneTwice}
 use Rattle.processes.specs.Sameness.{same_equation, same_term}
 use Rattle.processes.proofs.Sameness.{same_then_is, same_as_itself, same_line_is, line_as_itself}
 use Rattle.processes.specs.declared.equations.Equation.{Equation}
@@ -144,10 +144,10 @@ module _ (R : Room) where
     pub lines_once : Once S.lines
     pub equations_fit : (k : ℕ) → k < length S.equations → EquationFits (equation_at S.equations k)
     pub equations_below : (k : ℕ) → k < length S.equations → EquationBelow S.variables (equation_at S.equations k)
-    pub equations_once : Differ S.equations
+    pub equations_once : NoneTwice S.equations
     pub terms_fit : (k : ℕ) → k < length S.terms → TermFits (k + 1) (entry_at S.terms k)
     pub terms_below : (k : ℕ) → k < length S.terms → TermBelow S.variables (entry_at S.terms k)
-    pub terms_once : Differ S.terms
+    pub terms_once : NoneTwice S.terms
 
   abbrev pub said_at : ℕ → Sofar → List Said
   said_at zero S = []

@@ -3,19 +3,10 @@ use Rattle.std.proofs.Common.{◌≡◌, ℕ, ◌<◌, Bool, true, false, ◌||�
 use Rattle.std.proofs.lemmas.Bool.{both_ways, cases_Bool}
 use Rattle.std.proofs.lemmas.Option.{get_or_from_slice_get, slice_get-get_or, slice_get_within}
 use Rattle.std.specs.List.{list_any}
-use Rattle.rows.specs.Found.{Differ, Found}
+use Rattle.rows.specs.Found.{Differ, Found, HeldAt, NoneTwice}
 
--- no entry is the same as an earlier one
-abbrev pub DifferBy : {T : Type 0} → (T → T → Bool) → List T → Type 0
-DifferBy {T} same entries = (j k : ℕ) (d : T) → j < k → k < length entries → same (get_or entries j d) (get_or entries k d) ≡ false
-
-pub nothing_twice : {T : Type 0} → Differ {T = T} []
+pub nothing_twice : {T : Type 0} → NoneTwice {T = T} []
 nothing_twice j k x l e f = cc
-
--- what a search by a test tells; past the end an entry reads as x
-abbrev pub FoundBy : {T : Type 0} → (T → T → Bool) → List T → T → Option ℕ → Type 0
-FoundBy same entries x (Some i) = (i < length entries) × (same (get_or entries i x) x ≡ true) × ((k : ℕ) → k < i → same (get_or entries k x) x ≡ false)
-FoundBy same entries x None = (k : ℕ) → k < length entries → same (get_or entries k x) x ≡ false
 
 module _ {T : Type 0} (same : T → T → Bool) (exact : (x y : T) → same x y ≡ true → x ≡ y) (reflexive : (x : T) → same x x ≡ true) where
   -- another such test answers alike
@@ -38,19 +29,29 @@ module _ {T : Type 0} (same : T → T → Bool) (exact : (x y : T) → same x y 
       elim (cases_Bool (same (get_or entries k x) x))
       [ inl t ↦ absurd (n (slice_get-get_or entries k x l ∙ ap Some (exact (get_or entries k x) x t))) | inr f ↦ f ]
 
-  pub found_by : (entries : List T) (x : T) (r : Option ℕ) → Found entries x r → FoundBy same entries x r
+  pub found_by : (entries : List T) (x : T) (r : Option ℕ) → HeldAt entries x r → Found same entries x r
   found_by entries x None f = λ k l. other entries x k l (f k)
   found_by entries x (Some i) f =
       let l : i < length entries = slice_get_within entries i x f.0 in
       (l, ap (λ y. same y x) (get_or_from_slice_get entries i x x f.0) ∙ reflexive x, λ k m. other entries x k (omega arith) (f.1 k m))
 
-  pub differ_by : (entries : List T) → Differ entries → DifferBy same entries
+  apart : (entries : List T) (x : T) (k : ℕ) → same (get_or entries k x) x ≡ false → slice_get entries k ≡ Some x → ⊥
+  apart entries x k e g = both_ways (same x x) (ap (λ y. same y x) (sym (get_or_from_slice_get entries k x x g)) ∙ e) (reflexive x)
+
+  pub differ_by : (entries : List T) → NoneTwice entries → Differ same entries
   differ_by entries differ j k d l h =
       elim (cases_Bool (same (get_or entries j d) (get_or entries k d))) [
         | inl t ↦ absurd (differ j k (get_or entries j d) l (slice_get-get_or entries j d (omega arith)) (slice_get-get_or entries k d h ∙ ap Some (sym (exact (get_or entries j d) (get_or entries k d) t))))
         | inr n ↦ n
       ]
 
-  pub differ_from : (entries : List T) → DifferBy same entries → Differ entries
+  pub differ_from : (entries : List T) → Differ same entries → NoneTwice entries
   differ_from entries differ j k x l e f =
       both_ways (same x x) (ap₂ same (sym (get_or_from_slice_get entries j x x e)) (sym (get_or_from_slice_get entries k x x f)) ∙ differ j k x l (slice_get_within entries k x f)) (reflexive x)
+
+  pub held_at : (entries : List T) (x : T) (r : Option ℕ) → Found same entries x r → HeldAt entries x r
+  held_at entries x None f = λ k g. apart entries x k (f k (slice_get_within entries k x g)) g
+  held_at entries x (Some i) f = (
+    slice_get-get_or entries i x f.0 ∙ ap Some (exact (get_or entries i x) x f.1),
+    λ k l. apart entries x k (f.2 k l),
+  )

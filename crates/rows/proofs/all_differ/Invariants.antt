@@ -1,6 +1,5 @@
-use Rattle.rows.specs.Found.{NoneBelow}
-use Rattle.std.proofs.Common.{◌≡◌, ℕ, ◌<◌, Some, slice_get}
+use Rattle.std.proofs.Common.{◌≡◌, ℕ, ◌<◌, false, slice_index_or}
 use Rattle.rows.proofs.all_differ.Given as goal
 
 abbrev pub invariant-loop-k : goal.invariant-loop-k
-invariant-loop-k g l = (k : ℕ) (x : _) → k < l.k → slice_get l.entries k ≡ Some x → NoneBelow l.entries x k
+invariant-loop-k g l = (k j : ℕ) (d : _) → k < l.k → j < k → g.T.PartialEq.eq (slice_index_or l.entries j d) (slice_index_or l.entries k d) ≡ false
