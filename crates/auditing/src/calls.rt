@@ -42,6 +42,7 @@ pub enum Call<'a, L, R> {
     },
 }
 
+// Kept: four answers side by side; a `Result` over an enum of the other three would read no plainer in a row of answers.
 #[derive(Clone, Copy, Debug, PartialEq, Eq)]
 pub enum Answer {
     Done,

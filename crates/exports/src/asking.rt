@@ -17,6 +17,7 @@ pub struct Question {
     pub place: usize,
 }
 
+// Kept: whether there is a step is a flag beside it, since what is told crosses to C.
 // What a model answers: its sizes and start, whether the state may end, and the step at the place, all 0 where there is none.
 #[repr(C)]
 #[derive(Clone, Copy, Debug, PartialEq, Eq)]
@@ -35,10 +36,7 @@ fn tell<M: TransitionSystem>(model: &M, question: Question) -> Told
 {
     let step = model.step(question.state, question.place);
     let found = step.is_some();
-    let at = step.unwrap_or(Step {
-        action: 0,
-        target: 0,
-    });
+    let at = step.unwrap_or_default();
     Told {
         states: model.states(),
         start: model.start(),

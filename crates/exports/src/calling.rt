@@ -21,8 +21,8 @@ use transitions::verdicts::Verdict;
 
 // Kept: the kind is a number and models are named by flags, since calls cross to C.
 // Kind 0 pairs, 1 unpairs, 2 judges, 3 judges without a pair, 4 replies; 5 judges and 6 replies with the sheet as a plain pairing; 7
-// judges with the sides exchanged; any other judges both models merged by ports with the left one, beside the sheet. Those that look at models take the first two, or the other two where that is said. `marks` and
-// `queue` are the entries lent, at most all.
+// judges with the sides exchanged; any other judges both models merged by ports with the left one, beside the sheet. Those that look at
+// models take the first two, or the other two where that is said. `marks` and `queue` are the entries lent, at most all.
 #[repr(C)]
 #[derive(Clone, Copy, Debug, PartialEq, Eq)]
 pub struct Call {

@@ -1,6 +1,4 @@
-// Whether a right state answers the steps and the end of a left one. A `for` over places or states whose body writes the scratch
-// stays a loop, here and in the other parts of the judge: a closure of a chain may not change what it captures and still tell
-// what it returned.
+// Whether a right state answers the steps and the end of a left one.
 ghost use Rattle.std.specs.Prelude.{◌≡◌, ◌<◌, ◌≤◌, ◌&&◌, length, ◌==◌};
 ghost use Rattle.judging.specs.Scratch.{Clean};
 ghost use Rattle.judging.specs.Parts.{Tells, Lowest};
@@ -78,6 +76,7 @@ impl<L: TransitionSystem, R: TransitionSystem, P: Pairing> Comparison<'_, L, R, 
         ensures lowest { Lowest (L.TransitionSystem.meaning self.now.left.now).width (AtPlace (L.TransitionSystem.meaning self.now.left.now) (R.TransitionSystem.meaning self.now.right.now) (P.Pairing.standing self.now.pairing.now) s t) result }
         ensures clean { Clean marks.new queue.new }
     {
+        // Kept: a loop, here and where the judge goes over states: of a closure that writes the scratch nothing is known of what it answered.
         for place in 0..self.left.width() {
             if !self.answers_place(s, t, place, marks, queue) {
                 return Some(place);

@@ -29,8 +29,7 @@ fn judged<L: TransitionSystem, R: TransitionSystem>(
     let mut marks = [1u8; 8];
     let mut queue = [1u16; 8];
     let mut sheet = Sheet::open(&mut bytes, left, right);
-    for pair in pairs {
-        let (s, t) = *pair;
+    for &(s, t) in pairs {
         let _ = sheet.pair(s, t);
     }
     told(sheet.judge(left, right, &mut marks, &mut queue))

@@ -97,9 +97,11 @@ pub fn read(
         terms,
         term_count: 0,
     };
+    // Kept: a `match`; behind `if result.is_err()` the proof of what was read no longer closed.
     match filling.read(bytes) {
         Ok(n) => Ok(n),
         Err(e) => {
+            // Kept: the zero line written out; with `JoinLine::default()` the proof would name what `default` gives.
             clear(
                 lines,
                 JoinLine {

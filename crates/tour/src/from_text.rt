@@ -42,10 +42,7 @@ fn unfold_till(
     start: usize,
 ) -> io::Result<()> {
     let mut terms = [Term::Action(0); 16];
-    let mut steps = [Step {
-        action: 0,
-        target: 0,
-    }; 32];
+    let mut steps = [Step::default(); 32];
     let mut ends = [0u16; 17];
     match unfold(
         lines, equations, file, start, &mut terms, &mut steps, &mut ends,
@@ -66,11 +63,7 @@ fn unfold_till(
 }
 
 pub fn read_till(rt: &HostRuntime) -> io::Result<()> {
-    let mut lines = [JoinLine {
-        a: 0,
-        b: 0,
-        joint: 0,
-    }; 4];
+    let mut lines = [JoinLine::default(); 4];
     let mut equations = [Equation::Ends(0, 0); 8];
     let mut terms = [Term::Action(0); 8];
     match read(TILL, &mut lines, &mut equations, &mut terms) {

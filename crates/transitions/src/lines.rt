@@ -1,6 +1,6 @@
 // A line of a communication: it lets the actions a and b join to the action `joint`.
 #[repr(C)]
-#[derive(Clone, Copy, Debug, PartialEq, Eq)]
+#[derive(Clone, Copy, Debug, PartialEq, Eq, Default)]
 pub struct JoinLine {
     pub a: u8,
     pub b: u8,

@@ -5,7 +5,7 @@ ghost use Rattle.std.proofs.Common.{rules};
 use rows::Exact;
 
 #[repr(C)]
-#[derive(Clone, Copy, Debug, PartialEq, Eq)]
+#[derive(Clone, Copy, Debug, PartialEq, Eq, Default)]
 pub struct Step {
     pub action: u8,
     pub target: u16,

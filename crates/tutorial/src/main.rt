@@ -3,12 +3,11 @@
 
 mod loading;
 
-use crate::loading::{Room, load};
+use crate::loading::load;
 use models::systems::TransitionSystem;
 use pairings::faults::Fault;
 use sheets::sheet::Sheet;
 use std::io;
-use tables::steps_table::Table;
 use transitions::verdicts::{Figures, Verdict};
 
 // A pass is paid for (action 1) and handed out (action 2), again and again.
@@ -57,13 +56,10 @@ fn judge_pairs(
 }
 
 fn compare(rt: &HostRuntime, name: &str, till: &[u8]) -> io::Result<()> {
-    let mut rule_room = Room::new();
-    let mut till_room = Room::new();
-    let rule_counts = load(RULE, &mut rule_room);
-    let till_counts = load(till, &mut till_room);
-    let rule = Table::new(&rule_room.ends, &rule_room.steps, rule_counts);
-    let till = Table::new(&till_room.ends, &till_room.steps, till_counts);
-    judge_pairs(rt, name, &rule, &till)
+    match (load(RULE), load(till)) {
+        (Some(rule), Some(till)) => judge_pairs(rt, name, &rule.table(), &till.table()),
+        _ => println!(rt; "{name}: a file was refused"),
+    }
 }
 
 fn main(rt: HostRuntime) -> io::Result<()> {

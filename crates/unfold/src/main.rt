@@ -38,10 +38,7 @@ fn print_unfolding(
     start: usize,
 ) -> io::Result<()> {
     let mut terms = [Term::Action(0); 1023];
-    let mut steps = [Step {
-        action: 0,
-        target: 0,
-    }; 4096];
+    let mut steps = [Step::default(); 4096];
     let mut ends = [0u16; 1024];
     match unfold(
         lines, equations, file, start, &mut terms, &mut steps, &mut ends,
@@ -59,11 +56,7 @@ fn print_unfolding(
 
 // The unfolding of a file's bytes.
 fn print_model(rt: &HostRuntime, bytes: &[u8]) -> io::Result<()> {
-    let mut lines = [JoinLine {
-        a: 0,
-        b: 0,
-        joint: 0,
-    }; 32];
+    let mut lines = [JoinLine::default(); 32];
     let mut equations = [Equation::Ends(0, 0); 1024];
     let mut terms = [Term::Action(0); 256];
     match read(bytes, &mut lines, &mut equations, &mut terms) {

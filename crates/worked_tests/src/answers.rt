@@ -1,11 +1,10 @@
 // Verdicts and replies on the models of two files.
-use crate::unfolded::table_of;
+use crate::unfolded::unfold_file;
 use judging::replies::Ask;
 use models::systems::TransitionSystem;
 use pairings::faults::Fault;
 use pairings::standing::Pairing;
 use sheets::sheet::Sheet;
-use tables::steps_table::Table;
 use transitions::replies::Reply;
 use transitions::verdicts::{Figures, Verdict};
 use worked::files::File;
@@ -52,8 +51,7 @@ fn answer<L: TransitionSystem, R: TransitionSystem>(
     let mut marks = [1u8; 8];
     let mut queue = [1u16; 8];
     let mut sheet = Sheet::open(&mut bytes, left, right);
-    for pair in pairs {
-        let (s, t) = *pair;
+    for &(s, t) in pairs {
         let _ = sheet.pair(s, t);
     }
     match call {
@@ -64,12 +62,10 @@ fn answer<L: TransitionSystem, R: TransitionSystem>(
 }
 
 // The same on the models of two files.
-fn between(left: File, right: File, pairs: &[(usize, usize)], call: Call) -> Numbers {
-    let l = table_of(left.bytes());
-    let r = table_of(right.bytes());
-    let left = Table::new(&l.ends, &l.steps, l.counts);
-    let right = Table::new(&r.ends, &r.steps, r.counts);
-    answer(&left, &right, pairs, call)
+fn between(left: File, right: File, pairs: &[(usize, usize)], call: Call) -> Option<Numbers> {
+    let left = unfold_file(left.bytes())?;
+    let right = unfold_file(right.bytes())?;
+    Some(answer(&left.table(), &right.table(), pairs, call))
 }
 
 #[test]
@@ -77,7 +73,7 @@ fn merged_against_a_sequence(rt: HostRuntime) {
     let pairs = [(1, 0), (2, 2), (4, 1), (5, 1), (6, 0)];
     assert_eq!(rt;
         between(File::Merged, File::Twice, &pairs, Call::Judge),
-        ((2, 1, 0), (0, 0))
+        Some(((2, 1, 0), (0, 0)))
     );
 }
 
@@ -86,7 +82,7 @@ fn silent_middle(rt: HostRuntime) {
     let pairs = [(0, 0), (3, 2), (4, 2), (5, 3)];
     assert_eq!(rt;
         between(File::SilentMiddle, File::NoMiddle, &pairs, Call::Judge),
-        ((0, 0, 0), (0, 0)),
+        Some(((0, 0, 0), (0, 0))),
         "a match"
     );
     assert_eq!(rt;
@@ -96,7 +92,7 @@ fn silent_middle(rt: HostRuntime) {
             &pairs,
             Call::Without(3, 2),
         ),
-        ((2, 4, 2), (0, 0)),
+        Some(((2, 4, 2), (0, 0))),
         "one pair out"
     );
     let right = Ask {
@@ -112,7 +108,7 @@ fn silent_middle(rt: HostRuntime) {
             &pairs,
             Call::Reply(right),
         ),
-        ((6, 3, 0), (0, 0)),
+        Some(((6, 3, 0), (0, 0))),
         "the left state moves to 3"
     );
     let left = Ask {
@@ -128,7 +124,7 @@ fn silent_middle(rt: HostRuntime) {
             &pairs,
             Call::Reply(left),
         ),
-        ((5, 0, 0), (0, 0)),
+        Some(((5, 0, 0), (0, 0))),
         "the right state stays"
     );
 }
@@ -138,6 +134,6 @@ fn silent_start(rt: HostRuntime) {
     let pairs = [(0, 0), (2, 1), (3, 1)];
     assert_eq!(rt;
         between(File::SilentStart, File::OneAction, &pairs, Call::Judge),
-        ((4, 3, 1), (0, 0))
+        Some(((4, 3, 1), (0, 0)))
     );
 }

@@ -1,24 +1,17 @@
 // A file with the text of its table, and files that are refused.
-use crate::unfolded::table_of;
+use crate::unfolded::unfold_file;
 use modelfile::reading::read;
 use processes::equations::Equation;
 use processes::terms::Term;
 use std::test::Fail;
-use tables::steps_table::Table;
 use transitions::lines::JoinLine;
 use worked::files::File;
 
 #[test]
 fn merged_steps(rt: HostRuntime) -> Result<(), Fail> {
-    let merged = table_of(File::Merged.bytes());
     let mut text = [0u8; 80];
-    match Table::new(&merged.ends, &merged.steps, merged.counts).write(&mut text) {
-        Ok(end) => assert_eq!(rt; end, 80),
-        Err(_) => {
-            assert!(rt; false, "the text fits");
-            return Ok(())
-        },
-    }
+    let end = unfold_file(File::Merged.bytes()).map(|merged| merged.table().write(&mut text));
+    assert_eq!(rt; end, Some(Ok(80)));
     assert_eq!(rt;
         text,
         *b"n,7,2,9\ns,1,1,3\ns,2,1,4\ns,2,1,5\ns,3,1,0\ns,4,1,1\ns,4,1,6\ns,5,1,6\ns,5,1,1\ns,6,1,3\n"
@@ -28,11 +21,7 @@ fn merged_steps(rt: HostRuntime) -> Result<(), Fail> {
 
 // The number and the line of the refusal, 0 and 0 where the file is read.
 fn refusal(file: File) -> (u8, usize) {
-    let mut lines = [JoinLine {
-        a: 0,
-        b: 0,
-        joint: 0,
-    }; 4];
+    let mut lines = [JoinLine::default(); 4];
     let mut equations = [Equation::Ends(0, 0); 4];
     let mut terms = [Term::Action(0); 4];
     match read(file.bytes(), &mut lines, &mut equations, &mut terms) {
