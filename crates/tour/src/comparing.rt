@@ -6,29 +6,32 @@ use sheets::sheet::Sheet;
 use std::io;
 use transitions::verdicts::{Counterexample, Side, Verdict};
 
-// The state of a till whose baskets hold i and j passes.
-pub fn two_baskets(i: usize, j: usize) -> usize {
-    i.saturating_mul(CAP + 1).saturating_add(j)
+// The two tills: one is two baskets alone, the other keeps a count for the booking beside them.
+#[derive(Clone, Copy, Debug, PartialEq, Eq)]
+pub enum Baskets {
+    Alone,
+    Booked,
 }
 
-// The same of a till that keeps a count for the booking beside its two baskets.
-pub fn booked_baskets(i: usize, j: usize) -> usize {
-    two_baskets(i, j)
-        .saturating_mul(CAP + 1)
-        .saturating_add(i.saturating_add(j))
+impl Baskets {
+    // The state of the till in which the baskets hold i and j passes.
+    fn state(self, i: usize, j: usize) -> usize {
+        let alone = i.saturating_mul(CAP + 1).saturating_add(j);
+        match self {
+            Baskets::Alone => alone,
+            Baskets::Booked => alone
+                .saturating_mul(CAP + 1)
+                .saturating_add(i.saturating_add(j)),
+        }
+    }
 }
 
 // Pairs each state of the rule with the states of the till in which as many passes are sold.
-fn pair_by_sales<F: Fn(usize, usize) -> usize>(
-    sheet: &mut Sheet,
-    till_state: &F,
-) -> Result<usize, Fault>
-    requires { F.IsAlwaysCallable till_state.now }
-{
+fn pair_by_sales(sheet: &mut Sheet, baskets: Baskets) -> Result<usize, Fault> {
     let mut count: usize = 0;
     for i in 0..=CAP {
         for j in 0..=CAP - i {
-            sheet.pair(i + j, till_state(i, j))?;
+            sheet.pair(i + j, baskets.state(i, j))?;
             count = count.saturating_add(1);
         }
     }
@@ -91,20 +94,18 @@ fn tell(
 }
 
 // The whole comparison, in three notes.
-pub fn compare<F: Fn(usize, usize) -> usize + Drop>(
+pub fn compare(
     rt: &HostRuntime,
     note: u8,
     rule: &impl TransitionSystem,
     till: &impl TransitionSystem,
-    till_state: F,
-) -> io::Result<()>
-    requires { F.IsAlwaysCallable till_state }
-{
+    baskets: Baskets,
+) -> io::Result<()> {
     let mut bytes = [0u8; 16];
     let mut marks = [0u8; 32];
     let mut queue = [0u16; 32];
     let mut sheet = Sheet::open(&mut bytes, rule, till);
-    match pair_by_sales(&mut sheet, &till_state) {
+    match pair_by_sales(&mut sheet, baskets) {
         Ok(count) => {
             let rows = rule.states();
             let columns = till.states();

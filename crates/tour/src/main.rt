@@ -10,7 +10,7 @@ mod selling;
 mod tills;
 
 use crate::checking::check_sheet;
-use crate::comparing::{booked_baskets, compare, two_baskets};
+use crate::comparing::{Baskets, compare};
 use crate::from_text::read_till;
 use crate::selling::{describe, look_after, sell_out};
 use crate::tills::{booked_till, rule, till};
@@ -29,7 +29,7 @@ fn oversold(rt: &HostRuntime) -> io::Result<()> {
     println!(rt;
         "7. So the till sold {extra} passes more than the rule allows. A comparison finds that with no trial sale:"
     )?;
-    compare(rt, 8, &rule, &till, two_baskets)
+    compare(rt, 8, &rule, &till, Baskets::Alone)
 }
 
 // The till whose baskets sell only together with the booking.
@@ -42,7 +42,7 @@ fn corrected(rt: &HostRuntime) -> io::Result<()> {
     println!(rt;
         "    counter. It is the baskets merged with that counter, and what either does alone is blocked."
     )?;
-    compare(rt, 11, &rule, &till, booked_baskets)?;
+    compare(rt, 11, &rule, &till, Baskets::Booked)?;
     check_sheet(rt, &rule, &till)
 }
 
