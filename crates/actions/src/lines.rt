@@ -1,31 +1,25 @@
 // The search for the line that names a pair of actions.
-ghost use Rattle.std.specs.Prelude.{◌≡◌, ℕ, Some, find};
-ghost use Rattle.std.specs.Option.{option_copied};
+ghost use Rattle.std.specs.Prelude.{◌≡◌, ℕ, Some};
 ghost use Rattle.std.specs.List.{list_any};
 ghost use Rattle.transitions.specs.Listed.{Names, names, listed_joins};
 ghost use Rattle.transitions.specs.Rules.{Iff};
 
+use rows::find_same;
 use transitions::lines::JoinLine;
-
-// The first line that names a and b.
-fn first_line(lines: &[JoinLine], a: u8, b: u8) -> Option<&JoinLine>
-    ensures { option_copied result ≡ find (λ l. names l a b) lines.now }
-{
-    lines.iter().find(|line| line.names(a, b))
-}
 
 // Whether some line names a and b.
 pub fn is_named(lines: &[JoinLine], a: u8, b: u8) -> bool
     ensures { result ≡ list_any (λ l. names l a b) lines.now }
 {
-    lines.iter().any(|line| line.names(a, b))
+    find_same(lines, &JoinLine { a, b, joint: 0 }).is_some()
 }
 
 // What a and b join to: the joint of the first line that names them.
 pub fn joint_of(lines: &[JoinLine], a: u8, b: u8) -> Option<u8>
     ensures { result ≡ listed_joins lines.now a b }
 {
-    first_line(lines, a, b).map(|line| line.joint)
+    let place = find_same(lines, &JoinLine { a, b, joint: 0 })?;
+    Some(lines[place].joint)
 }
 
 // The action that the line names beside a.

@@ -6,27 +6,27 @@ ghost use Rattle.modelfile.specs.Tests.{any, said_before, full, too_many};
 
 use super::entries::Entry;
 use super::filling::Filling;
-use actions::lines::is_named;
 use processes::equations::Equation;
 use processes::terms::Term;
+use rows::find_same;
 use transitions::lines::JoinLine;
 
 fn is_line_before(lines: &[JoinLine], l: JoinLine) -> bool
     ensures { result ≡ any (λ k. names k l.a l.b) lines.now }
 {
-    is_named(lines, l.a, l.b)
+    find_same(lines, &l).is_some()
 }
 
 fn is_equation_before(equations: &[Equation], e: Equation) -> bool
     ensures { result ≡ any (λ d. same_equation d e) equations.now }
 {
-    equations.contains(&e)
+    find_same(equations, &e).is_some()
 }
 
 fn is_term_before(terms: &[Term], t: Term) -> bool
     ensures { result ≡ any (λ s. same_term s t) terms.now }
 {
-    terms.contains(&t)
+    find_same(terms, &t).is_some()
 }
 
 // Whether the limit or the row leaves no room behind so many entries.

@@ -21,7 +21,7 @@ pub fn all_differ<T: PartialEq>(entries: &[T]) -> bool
     ensures { Decides result (Differ T.eq entries.now) }
 {
     for (k, entry) in entries.iter().enumerate() {
-        if entries[..k].contains(entry) {
+        if find_same(&entries[..k], entry).is_some() {
             return false;
         }
     }

@@ -1,10 +1,11 @@
-use Rattle.std.proofs.Common.{◌≡◌, option_map, ap, ◌∙◌, rules}
-use Rattle.std.specs.Option.{option_copied}
-use Rattle.transitions.specs.declared.lines.JoinLine.{JoinLine}
-use Rattle.transitions.proofs.Listing.{found_joint}
+use Rattle.std.proofs.Common.{sym, ◌∙◌}
+use Rattle.transitions.proofs.Listing.{first_joint, no_joint}
 use Rattle.actions.proofs.lines.joint_of.Goals as goal
+
+pub returns-in_err-place : goal.returns-in_err-place
+returns-in_err-place c = c.from_residual.ensures ∙ sym (no_joint _ c.args.lines.now c.args.a c.args.b c.in_err-place.ensures)
 
 pub returns : goal.returns
 returns c =
-    let e : c.map.result ≡ option_map (λ (l : JoinLine). l.joint) (option_copied c.first_line.result) = search rules in
-    e ∙ ap (option_map (λ (l : JoinLine). l.joint)) c.first_line.ensures ∙ found_joint c.args.lines.now c.args.a c.args.b
+    let h = c.in_ok-place.ensures in
+    sym (first_joint _ c.args.lines.now c.args.a c.args.b c.in_ok-place.place h.0 h.1 h.2)
