@@ -2,7 +2,9 @@
 // the right steps, the left end and the right end.
 ghost use Rattle.std.specs.Prelude.{◌≡◌, ◌<◌, ◌≤◌, true, length};
 ghost use Rattle.judging.specs.Scratch.{Clean};
-ghost use Rattle.judging.specs.Parts.{PairJudged, RowJudged, RowsJudged};
+ghost use Rattle.judging.specs.Parts.{Tells, Lowest, PairJudged, RowJudged, RowsJudged};
+ghost use Rattle.transitions.specs.Match.{flip};
+ghost use Rattle.transitions.specs.Verdict.{AtPlace, AtEnd};
 
 use crate::comparison::Comparison;
 use models::systems::TransitionSystem;
@@ -11,6 +13,46 @@ use pairings::standing::Pairing;
 use transitions::verdicts::{Counterexample, Side, Verdict};
 
 impl<L: TransitionSystem, R: TransitionSystem, P: Pairing> Comparison<'_, L, R, P> {
+    // The lowest place of t whose step s does not answer.
+    fn right_unanswered(
+        &self,
+        s: usize,
+        t: usize,
+        marks: &mut [u8],
+        queue: &mut [u16],
+    ) -> Option<usize>
+        requires state { s < (L.TransitionSystem.meaning self.now.left.now).states }
+        requires fit { (L.TransitionSystem.meaning self.now.left.now).states ≤ length marks.old }
+        requires clean { Clean marks.old queue.old }
+        ensures lowest { Lowest (R.TransitionSystem.meaning self.now.right.now).width (AtPlace (R.TransitionSystem.meaning self.now.right.now) (L.TransitionSystem.meaning self.now.left.now) (flip (P.Pairing.standing self.now.pairing.now)) t s) result }
+        ensures clean { Clean marks.new queue.new }
+    {
+        let flipped = Flipped {
+            pairing: self.pairing,
+        };
+        self.turned(&flipped).first_unanswered(t, s, marks, queue)
+    }
+
+    // Whether s answers the end of t, if t may end.
+    fn answers_right_end(
+        &self,
+        s: usize,
+        t: usize,
+        marks: &mut [u8],
+        queue: &mut [u16],
+    ) -> bool
+        requires state { s < (L.TransitionSystem.meaning self.now.left.now).states }
+        requires fit { (L.TransitionSystem.meaning self.now.left.now).states ≤ length marks.old }
+        requires clean { Clean marks.old queue.old }
+        ensures tells { Tells result (AtEnd (R.TransitionSystem.meaning self.now.right.now) (L.TransitionSystem.meaning self.now.left.now) (flip (P.Pairing.standing self.now.pairing.now)) t s) }
+        ensures clean { Clean marks.new queue.new }
+    {
+        let flipped = Flipped {
+            pairing: self.pairing,
+        };
+        self.turned(&flipped).answers_end(t, s, marks, queue)
+    }
+
     // The first broken condition of a standing pair.
     fn judge_pair(&self, s: usize, t: usize, marks: &mut [u8], queue: &mut [u16]) -> Verdict
         requires leftmost { s < (L.TransitionSystem.meaning self.now.left.now).states }
@@ -22,20 +64,16 @@ impl<L: TransitionSystem, R: TransitionSystem, P: Pairing> Comparison<'_, L, R, 
         ensures judged { PairJudged (L.TransitionSystem.meaning self.now.left.now) (R.TransitionSystem.meaning self.now.right.now) (P.Pairing.standing self.now.pairing.now) s t result }
         ensures clean { Clean marks.new queue.new }
     {
-        let flipped = Flipped {
-            pairing: self.pairing,
-        };
-        let turned = self.turned(&flipped);
         if let Some(place) = self.first_unanswered(s, t, marks, queue) {
             return Err(Counterexample::StepUnanswered(s, t, Side::Left, place));
         }
-        if let Some(place) = turned.first_unanswered(t, s, marks, queue) {
+        if let Some(place) = self.right_unanswered(s, t, marks, queue) {
             return Err(Counterexample::StepUnanswered(s, t, Side::Right, place));
         }
         if !self.answers_end(s, t, marks, queue) {
             return Err(Counterexample::EndUnanswered(s, t, Side::Left));
         }
-        if !turned.answers_end(t, s, marks, queue) {
+        if !self.answers_right_end(s, t, marks, queue) {
             return Err(Counterexample::EndUnanswered(s, t, Side::Right));
         }
         Ok(())

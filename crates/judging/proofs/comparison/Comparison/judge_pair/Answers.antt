@@ -11,15 +11,15 @@ returns-in-Some g c =
       clean = c.first_unanswered.ensures.clean;
     }
 
-pub returns-in-Some-first_unanswered : goal.returns-in-Some-first_unanswered
-returns-in-Some-first_unanswered g c =
+pub returns-in-Some-right_unanswered : goal.returns-in-Some-right_unanswered
+returns-in-Some-right_unanswered g c =
     let L = g.L.TransitionSystem.meaning c.args.self.now.left.now in
     let R = g.R.TransitionSystem.meaning c.args.self.now.right.now in
     let B = g.P.Pairing.standing c.args.self.now.pairing.now in
     record {
       judged = right_step L R B _ _ c.requires.leftmost c.requires.rightmost c.requires.stands c.in_default.ensures.lowest _
-          (rw (c.turned-turned.ensures.left, c.turned-turned.ensures.right, c.turned-turned.ensures.pairing) at c.in-Some-first_unanswered.ensures.lowest);
-      clean = c.first_unanswered-2.ensures.clean;
+          c.in-Some-right_unanswered.ensures.lowest;
+      clean = c.right_unanswered.ensures.clean;
     }
 
 pub returns-then-not-answers_end : goal.returns-then-not-answers_end
@@ -29,20 +29,20 @@ returns-then-not-answers_end g c =
     let B = g.P.Pairing.standing c.args.self.now.pairing.now in
     record {
       judged = left_end L R B _ _ c.requires.leftmost c.requires.rightmost c.requires.stands c.in_default.ensures.lowest
-          (rw (c.turned-turned.ensures.left, c.turned-turned.ensures.right, c.turned-turned.ensures.pairing) at c.in_default-first_unanswered.ensures.lowest)
+          c.in_default-right_unanswered.ensures.lowest
           c.if-not-answers_end.ensures.tells;
       clean = c.answers_end.ensures.clean;
     }
 
-pub returns-then-not-answers_end-2 : goal.returns-then-not-answers_end-2
-returns-then-not-answers_end-2 g c =
+pub returns-then-not-answers_right_end : goal.returns-then-not-answers_right_end
+returns-then-not-answers_right_end g c =
     let L = g.L.TransitionSystem.meaning c.args.self.now.left.now in
     let R = g.R.TransitionSystem.meaning c.args.self.now.right.now in
     let B = g.P.Pairing.standing c.args.self.now.pairing.now in
     record {
       judged = right_end L R B _ _ c.requires.leftmost c.requires.rightmost c.requires.stands c.in_default.ensures.lowest
-          (rw (c.turned-turned.ensures.left, c.turned-turned.ensures.right, c.turned-turned.ensures.pairing) at c.in_default-first_unanswered.ensures.lowest)
+          c.in_default-right_unanswered.ensures.lowest
           c.if-not-answers_end.ensures.tells
-          (rw (c.turned-turned.ensures.left, c.turned-turned.ensures.right, c.turned-turned.ensures.pairing) at c.if-not-answers_end-2.ensures.tells);
-      clean = c.answers_end-2.ensures.clean;
+          c.if-not-answers_right_end.ensures.tells;
+      clean = c.answers_right_end.ensures.clean;
     }
