@@ -55,6 +55,8 @@ fn print_unfolding(
 }
 
 // The unfolding of a file's bytes.
+// Not put into `main`, which would then take the stack of these rows where there is no file, too.
+#[inline(never)]
 fn print_model(rt: &HostRuntime, bytes: &[u8]) -> io::Result<()> {
     let mut lines = [JoinLine::default(); 32];
     let mut equations = [Equation::Ends(0, 0); 1024];
