@@ -41,7 +41,7 @@ any_at_no f (x ∷ xs) zero d h l = (or_false (f x) (any f xs) h).0
 any_at_no f (x ∷ xs) (suc j) d h l = any_at_no f xs j d (or_false (f x) (any f xs) h).1 (omega arith)
 
 -- All differ still where the last is the same as none before it.
-differ_by_snoc : {A : Type 0} (same : A → A → Bool) (xs : List A) (x : A) → Differ same xs → any (λ y. same y x) xs ≡ false → Differ same (xs ++ (x ∷ []))
+pub differ_by_snoc : {A : Type 0} (same : A → A → Bool) (xs : List A) (x : A) → Differ same xs → any (λ y. same y x) xs ≡ false → Differ same (xs ++ (x ∷ []))
 differ_by_snoc {A} same xs x h f j k d m l = go (dec_le (suc k) (length xs))
   where
     go : Dec (suc k ≤ length xs) → same (get_or (xs ++ (x ∷ [])) j d) (get_or (xs ++ (x ∷ [])) k d) ≡ false
@@ -53,7 +53,7 @@ differ_by_snoc {A} same xs x h f j k d m l = go (dec_le (suc k) (length xs))
         subst₂ (λ u v. same u v ≡ false) (sym (get_or-append xs (x ∷ []) d j b)) (sym (ap (λ i. get_or (xs ++ (x ∷ [])) i d) (sym e) ∙ get_or-append_seam xs x [] d)) (any_at_no (λ y. same y x) xs j d f b)
 
 -- And an entry between two parts is the same as none before it.
-fresh_by : {A : Type 0} (same : A → A → Bool) (xs : List A) (x : A) (ys zs : List A) → xs ++ (x ∷ ys) ≡ zs → Differ same zs → any (λ y. same y x) xs ≡ false
+pub fresh_by : {A : Type 0} (same : A → A → Bool) (xs : List A) (x : A) (ys zs : List A) → xs ++ (x ∷ ys) ≡ zs → Differ same zs → any (λ y. same y x) xs ≡ false
 fresh_by same xs x ys zs e h = none_at (λ y. same y x) xs x (λ j b.
     let left : get_or zs j x ≡ get_or xs j x = ap (λ z. get_or z j x) (sym e) ∙ get_or-append xs (x ∷ ys) x j b in
     let here : get_or zs (length xs) x ≡ x = ap (λ z. get_or z (length xs) x) (sym e) ∙ get_or-append_seam xs x ys x in
