@@ -2,6 +2,7 @@
 use actions::communications::Communication;
 use actions::listed::Listed;
 use actions::ports::Ports;
+use rows::{all_differ, find_same};
 use transitions::lines::JoinLine;
 
 fn line(a: u8, b: u8, joint: u8) -> JoinLine {
@@ -30,6 +31,16 @@ fn lines_join(rt: HostRuntime) {
     assert_eq!(rt; joined(&two, 5, 4), Some(6), "in either order");
     assert_eq!(rt; joined(&two, 1, 4), None);
     assert_eq!(rt; joined(&[], 1, 2), None, "no line");
+}
+
+// Lines are searched by the pair that they name, in either order, whatever it joins to.
+#[test]
+fn lines_are_found_by_their_pair(rt: HostRuntime) {
+    let two = [line(1, 2, 3), line(4, 5, 6)];
+    assert_eq!(rt; find_same(&two, &line(5, 4, 0)), Some(1));
+    assert_eq!(rt; find_same(&two, &line(1, 4, 3)), None);
+    assert!(rt; all_differ(&two));
+    assert!(rt; !all_differ(&[line(1, 2, 3), line(2, 1, 4)]));
 }
 
 #[test]

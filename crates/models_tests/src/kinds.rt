@@ -45,6 +45,23 @@ fn set_kinds_answer(rt: HostRuntime) {
     assert_eq!(rt; at(&hidden, 1, 1), (2, 0));
 }
 
+// A merge over any model, in a field of a struct that asks of the model only what a model is.
+#[derive(Drop)]
+struct Pile<M: TransitionSystem> {
+    merge: Merge<Blocked<M>, Counter, Ports>,
+}
+
+#[test]
+fn held_merge_answers(rt: HostRuntime) {
+    let blocked = Blocked::new(Counter::new(1, 1, 2), ActionSet::new(2));
+    let pile = Pile {
+        merge: Merge::new(blocked, Counter::new(1, 2, 1), Ports::new()),
+    };
+    assert_eq!(rt; pile.merge.states(), 4);
+    assert_eq!(rt; at(&pile.merge, 0, 0), (255, 0), "the left is blocked");
+    assert_eq!(rt; at(&pile.merge, 0, 2), (2, 1), "the right takes");
+}
+
 #[test]
 fn merge_answers(rt: HostRuntime) {
     let merge = Merge::new(Counter::new(1, 1, 2), Counter::new(1, 2, 1), Ports::new());
