@@ -1,3 +1,4 @@
 pub mod Either
+pub mod Merged
 pub mod Optional
 pub mod Sizes
