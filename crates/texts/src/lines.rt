@@ -1,10 +1,8 @@
 // A line: a letter and three numbers, parted by commas and ended by a line feed.
-ghost use Rattle.std.specs.Prelude.{◌≡◌, ◌+◌, ◌<◌, ◌≤◌, ◌∷◌, ◌++◌, length, drop, decimal, IsNone, IfSome, IfNone, ◌↔◌};
-ghost use Rattle.arrayvec.specs.ArrayVec.{array_vec_len};
+ghost use Rattle.std.specs.Prelude.{◌≡◌, ◌<◌, ◌≤◌, ◌++◌, length, drop, Decides, IsNone, IfSome, IfNone, ◌↔◌};
 ghost use Rattle.texts.specs.Lines.{line_of};
 
-use arrayvec::ArrayVec;
-use itoa::Buffer;
+use crate::numbers::{digits, put_field};
 
 #[derive(Clone, Copy, Debug, PartialEq, Eq)]
 pub struct Line {
@@ -13,26 +11,22 @@ pub struct Line {
 }
 
 impl Line {
-    // The bytes of the line: a letter, three commas, at most 15 digits and a line feed.
-    fn bytes(&self) -> ArrayVec<u8, 20>
-        ensures { result.items ≡ line_of self.now }
-    {
-        let [x, y, z] = self.numbers;
-        let mut bytes = ArrayVec::new();
-        bytes.push(self.letter);
-        push_field(&mut bytes, x);
-        push_field(&mut bytes, y);
-        push_field(&mut bytes, z);
-        bytes.push(b'\n');
-        bytes
-    }
-
-    // How long the line is.
+    // How long the line is: its digits, a letter, three commas and a line feed.
     pub fn length(&self) -> usize
         ensures long { result ≡ length (line_of self.now) }
         ensures most { result ≤ 20 }
     {
-        self.bytes().len()
+        let [x, y, z] = self.numbers;
+        digits(x) + digits(y) + digits(z) + 5
+    }
+
+    // Whether the line has so much room. The longest line has 20 bytes: none is counted where there is room for that.
+    fn fits(&self, room: usize) -> bool
+        ensures { Decides result (length (line_of self.now) ≤ room) }
+    {
+        // No number has more than five digits.
+        let [_x, _y, _z] = self.numbers;
+        room >= 20 || room >= self.length()
     }
 
     // Writes the line at the front of the buffer, and answers where it ends. Where it does not fit, the buffer stays.
@@ -42,24 +36,15 @@ impl Line {
         ensures kept { IfNone result (out.new ≡ out.old) }
         ensures refused { IsNone result ↔ (length out.old < length (line_of self.now)) }
     {
-        let bytes = self.bytes();
-        let end = bytes.len();
-        if end > out.len() {
+        if !self.fits(out.len()) {
             return None;
         }
-        out[..end].copy_from_slice(bytes.as_slice());
-        Some(end)
+        let [x, y, z] = self.numbers;
+        out[0] = self.letter;
+        let after_x = put_field(out, 1, x);
+        let after_y = put_field(out, after_x, y);
+        let after_z = put_field(out, after_y, z);
+        out[after_z] = b'\n';
+        Some(after_z + 1)
     }
-}
-
-// Adds a comma and the number's digits, five at most.
-fn push_field(bytes: &mut ArrayVec<u8, 20>, number: u16)
-    requires room { array_vec_len bytes.old + 6 ≤ 20 }
-    ensures added { bytes.new.items ≡ bytes.old.items ++ 44 ∷ decimal number }
-    ensures most { array_vec_len bytes.new ≤ array_vec_len bytes.old + 6 }
-{
-    bytes.push(b',');
-    bytes
-        .try_extend_from_slice(Buffer::new().format(number).as_bytes())
-        .unwrap();
 }
