@@ -34,13 +34,7 @@ impl<L: TransitionSystem, R: TransitionSystem, P: Pairing> Comparison<'_, L, R, 
     }
 
     // Whether s answers the end of t, if t may end.
-    fn answers_right_end(
-        &self,
-        s: usize,
-        t: usize,
-        marks: &mut [u8],
-        queue: &mut [u16],
-    ) -> bool
+    fn answers_right_end(&self, s: usize, t: usize, marks: &mut [u8], queue: &mut [u16]) -> bool
         requires state { s < (L.TransitionSystem.meaning self.now.left.now).states }
         requires fit { (L.TransitionSystem.meaning self.now.left.now).states ≤ length marks.old }
         requires clean { Clean marks.old queue.old }
